@@ -1,0 +1,34 @@
+// The lines that betting terminals send: what a line says, and what can be wrong with one.
+mod faults;
+mod line;
+
+pub use faults::AmountFault;
+pub use faults::AmountFaultDebug;
+pub use faults::AmountFaultEq;
+pub use faults::AmountFaultPartialEq;
+pub use faults::LineFault;
+pub use faults::LineFaultDebug;
+pub use faults::LineFaultEq;
+pub use faults::LineFaultPartialEq;
+pub use line::Line;
+pub use line::LineDebug;
+pub use line::LineDisplay;
+pub use line::LineEq;
+pub use line::LinePartialEq;
+pub use line::Pool;
+pub use line::PoolDebug;
+pub use line::PoolDisplay;
+pub use line::PoolEq;
+pub use line::PoolPartialEq;
+pub use line::Race;
+pub use line::RaceDebug;
+pub use line::RaceEq;
+pub use line::RacePartialEq;
+pub use line::Runner;
+pub use line::RunnerDebug;
+pub use line::RunnerEq;
+pub use line::RunnerPartialEq;
+pub use line::Terminal;
+pub use line::TerminalDebug;
+pub use line::TerminalEq;
+pub use line::TerminalPartialEq;

@@ -1,0 +1,5 @@
+pub mod Numerals
+pub mod Amounts
+pub mod Records
+pub mod Written
+pub mod Examples

@@ -1,0 +1,3 @@
+pub mod Pools
+pub mod Summaries
+pub mod Reports
