@@ -25,51 +25,23 @@ to agree with it.
 from __future__ import annotations
 
 import sys
-from collections.abc import Iterable, Iterator, Sequence
-from pathlib import Path
-from random import Random
-from typing import TypeVar
+from collections.abc import Iterable, Iterator
 
 sys.dont_write_bytecode = True
 
 import reference  # noqa: E402
+import stored  # noqa: E402
 from reference import Line, LineFault  # noqa: E402
+from stored import END, ROOT, Chance, Files, ended, must_agree  # noqa: E402
 
-ROOT = Path(__file__).resolve().parent.parent
 REPORT_CASES = ROOT / "crates" / "report_cases"
 REPORT_DATA = REPORT_CASES / "data"
 LINE_CASES = ROOT / "crates" / "line_cases"
 
-END = b"\r\n"
 GOOD = b"007,03,W,05,     20.00"
 
 # Bytes that mean something in a record, their neighbours, and some far away.
 TELLING_BYTES = b"\x00\t\n\r +,-./0129:EPWpw\x7f\x80\xa0\xac\xb0\xff"
-
-Item = TypeVar("Item")
-
-
-class Chance:
-    """Seeded choices, drawn from the one method whose numbers never change."""
-
-    def __init__(self, seed: int) -> None:
-        self._random = Random(seed)
-
-    def below(self, bound: int) -> int:
-        """A number from 0 up to, but not including, the bound."""
-        return int(self._random.random() * bound)
-
-    def between(self, least: int, most: int) -> int:
-        """A number from the least to the most, both included."""
-        return least + self.below(most - least + 1)
-
-    def pick(self, items: Sequence[Item]) -> Item:
-        """One of the items; of bytes, a number."""
-        return items[self.below(len(items))]
-
-    def string(self, alphabet: bytes, length: int) -> bytes:
-        """So many bytes of the alphabet."""
-        return bytes(self.pick(alphabet) for _ in range(length))
 
 
 # Records and inputs
@@ -89,11 +61,6 @@ def record(
 def with_byte(text: bytes, place: int, byte: int) -> bytes:
     """The bytes with another one at a place."""
     return text[:place] + bytes([byte]) + text[place + 1 :]
-
-
-def ended(*records: bytes) -> bytes:
-    """An input of these records, each ended by CR LF."""
-    return b"".join(each + END for each in records)
 
 
 def right(text: bytes) -> bytes:
@@ -957,13 +924,7 @@ def written(line: Line) -> bytes:
     return b"refused,%d" % reference.FIELD if text is None else text
 
 
-# Checks of the cases themselves
-
-
-def must_agree(what: str, by_hand: bytes, by_reference: bytes) -> None:
-    """End the run where an answer worked out by hand is not the reference's."""
-    if by_hand != by_reference:
-        sys.exit(f"{what}: by hand {by_hand!r}, by the reference {by_reference!r}")
+# A check of the cases themselves
 
 
 def must_be_new(name: str, names: Iterable[str]) -> None:
@@ -975,7 +936,7 @@ def must_be_new(name: str, names: Iterable[str]) -> None:
 # The stored files
 
 
-def stored_files() -> dict[Path, bytes]:
+def stored_files() -> Files:
     """Every stored file with what stands in it."""
     inputs = report_inputs()
     commands = line_commands()
@@ -993,48 +954,5 @@ def stored_files() -> dict[Path, bytes]:
     return files
 
 
-def strange_files(files: dict[Path, bytes]) -> list[Path]:
-    """What stands in the folder of inputs and is no case."""
-    if not REPORT_DATA.is_dir():
-        return []
-    return sorted(path for path in REPORT_DATA.iterdir() if path not in files)
-
-
-def write_files(files: dict[Path, bytes]) -> None:
-    """Write every stored file, and take away inputs that are no case any more."""
-    for path, content in files.items():
-        path.parent.mkdir(parents=True, exist_ok=True)
-        path.write_bytes(content)
-    for path in strange_files(files):
-        path.unlink()
-
-
-def differences(files: dict[Path, bytes]) -> list[str]:
-    """What is wrong with the stored files, each by its name."""
-    wrong = []
-    for path, content in files.items():
-        if not path.is_file():
-            wrong.append(f"{path.relative_to(ROOT)}: missing")
-        elif path.read_bytes() != content:
-            wrong.append(f"{path.relative_to(ROOT)}: differs")
-    for path in strange_files(files):
-        wrong.append(f"{path.relative_to(ROOT)}: no case")
-    return wrong
-
-
-def main(arguments: list[str]) -> int:
-    """Write the stored files, or check them."""
-    if arguments == []:
-        write_files(stored_files())
-        return 0
-    if arguments == ["--check"]:
-        wrong = differences(stored_files())
-        for each in wrong:
-            print(each, file=sys.stderr)
-        return 1 if wrong else 0
-    print("usage: python3 tests/cases.py [--check]", file=sys.stderr)
-    return 2
-
-
 if __name__ == "__main__":
-    sys.exit(main(sys.argv[1:]))
+    sys.exit(stored.main(sys.argv, stored_files, (REPORT_DATA,)))

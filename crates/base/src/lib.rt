@@ -11,3 +11,6 @@ pub use cents::CentsPartialEq;
 pub use cents::CentsPartialOrd;
 pub use cents::methods::CentsDisplay;
 pub use refusal::Refusal;
+pub use refusal::RefusalDebug;
+pub use refusal::RefusalEq;
+pub use refusal::RefusalPartialEq;

@@ -1,4 +1,5 @@
--- The letter of a pool, and a line for people to read. Assumes nothing.
+-- Pools, the letter of each, and a line for people to read. Assumes nothing.
+use mathlib.Core.Bool.{Bool, true, false}
 use mathlib.Core.List.{List, _∷_, _++_}
 use Prim.Native.Nat.{ℕ}
 use Rattle.std.specs.Written.{decimal}
@@ -6,6 +7,13 @@ use Rattle.base.specs.Money.{dollars}
 use Rattle.lines.specs.declared.line.Line.{Line}
 use Rattle.lines.specs.declared.line.Pool.{Pool}
 use Rattle.lines.specs.declared.line.Pool.the-variants.{Win, Place}
+
+-- whether two pools are the same
+abbrev pub same-pool : Pool → Pool → Bool
+same-pool Win Win = true
+same-pool Win Place = false
+same-pool Place Win = false
+same-pool Place Place = true
 
 -- 'W' or 'P'
 abbrev pub letter-of : Pool → ℕ

@@ -13,7 +13,8 @@ use Rattle.std.specs.shelf.Signed.{wrapped}
 use Rattle.lines.specs.declared.line.Line.{Line}
 use Rattle.lines.specs.declared.line.Pool.{Pool}
 use Rattle.lines.specs.declared.line.Pool.the-variants.{Win, Place}
-use Rattle.reports.specs.Pools.{same-pool, lines-of, sum, total}
+use Rattle.lines.specs.Lines.{same-pool}
+use Rattle.reports.specs.Pools.{lines-of, sum, total}
 
 same-pool-is : (p q : Pool) → q ≡ p → same-pool p q ≡ true
 same-pool-is p q e = ap (same-pool p) e ∙ itself p

@@ -1,5 +1,4 @@
 -- The lines of a pool, and their total. Assumes nothing.
-use mathlib.Core.Bool.{Bool, true, false}
 use mathlib.Core.List.{List}
 use lib.IntN.{ℤ, pos, _+ℤ_}
 use mir.Syntax.{w64}
@@ -7,13 +6,7 @@ use Rattle.std.specs.shelf.Lists.{kept-by, folded}
 use Rattle.std.specs.shelf.Signed.{wrapped}
 use Rattle.lines.specs.declared.line.Line.{Line}
 use Rattle.lines.specs.declared.line.Pool.{Pool}
-use Rattle.lines.specs.declared.line.Pool.the-variants.{Win, Place}
-
-abbrev pub same-pool : Pool → Pool → Bool
-same-pool Win Win = true
-same-pool Win Place = false
-same-pool Place Win = false
-same-pool Place Place = true
+use Rattle.lines.specs.Lines.{same-pool}
 
 -- the lines whose pool is p, in their order
 abbrev pub lines-of : Pool → List Line → List Line

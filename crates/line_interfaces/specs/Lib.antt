@@ -1,0 +1,2 @@
+pub mod Latests
+pub mod Scratching

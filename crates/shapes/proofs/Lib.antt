@@ -1,0 +1,10 @@
+pub mod Lists
+pub mod Tables
+pub mod Reading
+pub mod Hanging
+pub mod Finding
+pub mod Packing
+pub mod Totals
+pub mod Drafting
+pub mod Keeping
+pub mod Growing
