@@ -1,4 +1,6 @@
 // What every layer of the engine shares: why a call is turned away, and amounts of money.
+#![tactic(auto)]
+
 mod cents;
 mod refusal;
 

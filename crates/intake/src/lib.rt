@@ -1,4 +1,6 @@
 // Takes an input of bet lines in: cuts it into records, and puts the lines that they say into a strip.
+#![tactic(auto)]
+
 mod faults;
 mod input;
 mod strip;

@@ -1,4 +1,6 @@
 // Three interfaces, an operation, a test and a joining, and what the values of a row come to when they are joined.
+#![tactic(auto)]
+
 mod adding;
 mod folding;
 #[cfg(test)]

@@ -1,5 +1,7 @@
 // Writes what the reader and the writer of lines answer to each command of standard input.
 // A command is a letter and what stands behind it: `R` a record to read, `A` an amount to read, `W` the values of a line to write.
+#![tactic(auto)]
+
 use anyhow::{Context, anyhow};
 use base::Cents;
 use intake::Records;

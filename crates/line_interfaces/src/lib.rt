@@ -1,4 +1,6 @@
 // What can be asked of a line, and how what is answered is joined.
+#![tactic(auto)]
+
 mod asked;
 mod latest;
 mod scratched;

@@ -1,4 +1,6 @@
 // The lines that betting terminals send: what a line says, and what can be wrong with one.
+#![tactic(auto)]
+
 mod faults;
 mod line;
 

@@ -1,4 +1,6 @@
 // Reads bet lines from standard input and writes the report on them to standard output.
+#![tactic(auto)]
+
 use reports::report;
 use std::io::{Read, Write};
 

@@ -1,4 +1,6 @@
 // The record of a bet line, 22 bytes: how it is read, and how it is written.
+#![tactic(auto)]
+
 mod amount;
 mod fields;
 mod numeral;

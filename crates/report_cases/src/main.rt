@@ -1,4 +1,6 @@
 // Writes, for each file that standard input names, its name and the report on it.
+#![tactic(auto)]
+
 use reports::report;
 use std::fs;
 use std::io::Write;

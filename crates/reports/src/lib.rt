@@ -1,4 +1,6 @@
 // The report on an input of bet lines: for each pool, how many lines it has and their total.
+#![tactic(auto)]
+
 ghost use Rattle.std.specs.Prelude.{length, IfOk, Some as some_of, string_bytes};
 ghost use Rattle.intake.specs.Inputs.{CutInto, records};
 ghost use Rattle.reports.specs.Summaries.{Tallied, BothTallied, Summarizes};

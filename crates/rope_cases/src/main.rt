@@ -1,5 +1,7 @@
 // Writes what drafts, trees and the scratched set answer to each command of standard input.
 // A command is a letter and the numbers behind it, with a space before each; tests/rope_cases.py lists them.
+#![tactic(auto)]
+
 use anyhow::{Context, anyhow};
 use base::{Cents, Refusal};
 use drafts::Draft;

@@ -1,4 +1,6 @@
 // What ropes are: their nodes, the shapes that a table of nodes stands for, and when one is balanced.
+#![tactic(auto)]
+
 mod balance;
 mod node;
 

@@ -1,4 +1,6 @@
 // A shelf: a caller's strip, read only, with the count of elements that were put on it.
+#![tactic(auto)]
+
 ghost use Rattle.std.specs.Prelude.{◌≡◌, length, take, MatchResult};
 ghost use Rattle.base.specs.Refusals.{Refuses, Passes};
 ghost use Rattle.shelves.specs.Shelves.{held, open_asks};

@@ -1,4 +1,6 @@
 // Trees of ropes: made, asked, packed, and with their leaves started anew.
+#![tactic(auto)]
+
 mod table;
 mod tree;
 

@@ -10,8 +10,8 @@ pub loop-line-init : goal.loop-line-init
 unfolding int_wrap
 loop-line-init c = (omega arith, refl, c.new-total.ensures)
 
-pub overflow-add-count : goal.overflow-add-count
-overflow-add-count c = record { fits = omega (arith, c.loop-line.invariant.1, lines_of_few c.args.pool (take c.loop-line.line-index c.args.lines.now), length-take c.loop-line.line-index c.args.lines.now) }
+pub overflow_add-count : goal.overflow_add-count
+overflow_add-count c = record { fits = omega (arith, c.loop-line.invariant.1, lines_of_few c.args.pool (take c.loop-line.line-index c.args.lines.now), length-take c.loop-line.line-index c.args.lines.now) }
 
 pub loop-line-preserved : goal.loop-line-preserved
 loop-line-preserved c =
@@ -24,7 +24,7 @@ loop-line-preserved c =
           let more = taken p ls i l c.loop-line-test.true c.line-item.is w.if-eq.ensures in (
             omega arith,
             w.count-is ∙ ap (λ n. n + 1) c.loop-line.invariant.1 ∙ sym (length_push (lines_of p (take i ls)) l) ∙ ap length (sym more),
-            ap (λ t. t.cents) w.total-is ∙ w.wrapping-add-total.ensures ∙ ap (λ z. int_wrap w64 (z +ℤ l.amount.cents)) c.loop-line.invariant.2 ∙ total_push (lines_of p (take i ls)) l ∙ ap total (sym more),
+            ap (λ t. t.cents) w.total-is ∙ w.wrapping_add-total.ensures ∙ ap (λ z. int_wrap w64 (z +ℤ l.amount.cents)) c.loop-line.invariant.2 ∙ total_push (lines_of p (take i ls)) l ∙ ap total (sym more),
           )
       | else-eq w ↦
           let same = passed p ls i l c.loop-line-test.true c.line-item.is w.if-eq.ensures in

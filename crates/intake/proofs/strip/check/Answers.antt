@@ -6,7 +6,7 @@ use Rattle.intake.proofs.strip.check.Goals as goal
 
 pub loop-row-init : goal.loop-row-init
 loop-row-init c =
-    let whole = ap (λ r. r.rest.now) c.into-iter-row-iterator.ensures.into-iter-gives ∙ c.of-row-items.ensures in
+    let whole = ap (λ r. r.rest.now) c.into_iter-row-iterator.ensures.into_iter_gives ∙ c.of-row-items.ensures in
     (subst (λ rest. Sofar (records c.args.input.now) (records rest) 0) (sym whole) (sofar_none _), omega arith)
 
 pub returns-in-Err : goal.returns-in-Err
@@ -24,15 +24,15 @@ returns-then-count-room c = record {
   cut = cut_into c.args.input.now;
   all = record {
     row = c.in-Some.row.now;
-    line = c.in-default.field-0;
+    line = c.in_default.field-0;
     first = sofar_bad c.loop-row.invariant.0 c.args.room _ _ c.in-Some.ensures.steps c.loop-row.invariant.1;
-    reads = c.in-default.ensures.says;
+    reads = c.in_default.ensures.says;
     full = omega arith;
   };
 }
 
 pub loop-row-preserved : goal.loop-row-preserved
-loop-row-preserved c = (sofar_more c.loop-row.invariant.0 _ _ _ c.in-Some.ensures.steps c.in-default.ensures.says, omega (arith, c.loop-row.invariant.1))
+loop-row-preserved c = (sofar_more c.loop-row.invariant.0 _ _ _ c.in-Some.ensures.steps c.in_default.ensures.says, omega (arith, c.loop-row.invariant.1))
 
 pub returns : goal.returns
 returns c = record {

@@ -8,10 +8,10 @@ pub loop-i-init : goal.loop-i-init
 loop-i-init c = subst (λ rest. Put (records c.args.input.now) (records rest) 0 c.args.strip.now c.args.strip.now) (sym c.of-rows.ensures) (put_none _ _)
 
 pub unreachable-requires : goal.unreachable-requires
-unreachable-requires c = sofar_next c.loop-i.invariant.sofar c.requires.all c.loop-i-test.true c.in-default.ensures.steps.0
+unreachable-requires c = sofar_next c.loop-i.invariant.sofar c.requires.all c.loop-i-test.true c.in_default.ensures.steps.0
 
-pub unreachable-requires-in-default-read-line : goal.unreachable-requires-in-default-read-line
-unreachable-requires-in-default-read-line c = sofar_fine c.loop-i.invariant.sofar c.requires.all _ _ _ c.in-Some.ensures.steps c.in-default-read-line.ensures.says
+pub unreachable-requires-in_default-read_line : goal.unreachable-requires-in_default-read_line
+unreachable-requires-in_default-read_line c = sofar_fine c.loop-i.invariant.sofar c.requires.all _ _ _ c.in-Some.ensures.steps c.in_default-read_line.ensures.says
 
 pub loop-i-preserved : goal.loop-i-preserved
 loop-i-preserved c = put_more c.loop-i.invariant _ _ _ c.in-Some.ensures.steps c.in-Ok.ensures.says (omega arith)

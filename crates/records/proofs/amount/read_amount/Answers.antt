@@ -7,10 +7,10 @@ use Rattle.records.proofs.Amounts.{Found, found_says, said_point, said_digits, s
 use Rattle.records.proofs.Digits.{number_short}
 use Rattle.records.proofs.Worked.{worked_amounts}
 use Rattle.records.proofs.amount.read_amount.Goals as goal
-use Rattle.records.proofs.amount.read_amount.Goals.{After-split-sign-sign, then-bytes-ne10-via-then-bytes-ne10, then-bytes-ne10-via-else-bytes-ne10+then-bytes-ne46}
+use Rattle.records.proofs.amount.read_amount.Goals.{After-split_sign-sign, then-bytes-ne10-via-then-bytes-ne10, then-bytes-ne10-via-else-bytes-ne10+then-bytes-ne46}
 
 -- what stands before the point, once the spaces and the sign are off
-found : (c : After-split-sign-sign) → Found c.args.bytes.now c.split-sign-sign.result.0 c.split-sign-sign.result.1.now
+found : (c : After-split_sign-sign) → Found c.args.bytes.now c.split_sign-sign.result.0 c.split_sign-sign.result.1.now
 found c = record {
   spaces = length (take 7 c.args.bytes.now) - length c.unpadded.result.now;
   text = c.unpadded.result.now;
@@ -18,8 +18,8 @@ found c = record {
   point = omega arith;
   padded = c.unpadded.ensures.layout;
   unpadded = c.unpadded.ensures.bare;
-  split = c.split-sign-sign.ensures.layout;
-  bare = c.split-sign-sign.ensures.bare;
+  split = c.split_sign-sign.ensures.layout;
+  bare = c.split_sign-sign.ensures.bare;
 }
 
 -- the two bytes behind the point
@@ -34,36 +34,36 @@ returns-then-bytes-ne10 c =
     ] in
     record { says = (refl, no); only = no; examples = worked_amounts }
 
-pub returns-then-is-empty : goal.returns-then-is-empty
-returns-then-is-empty c =
-    let at = found (goal.at.returns-then-is-empty c).After-split-sign-sign in
+pub returns-then-is_empty : goal.returns-then-is_empty
+returns-then-is_empty c =
+    let at = found (goal.at.returns-then-is_empty c).After-split_sign-sign in
     let no : (z : ℤ) → Says c.args.bytes.now z → ⊥ = λ z s.
     ⊎_elim
-    (λ none. omega (arith, said_some s at, true-eqb _ 0 (sym none ∙ c.is-empty.ensures)))
+    (λ none. omega (arith, said_some s at, true-eqb _ 0 (sym none ∙ c.is_empty.ensures)))
     (λ many. omega (arith, said_six s at, many.1))
-    c.then-is-empty.either in
+    c.then-is_empty.either in
     record { says = (refl, no); only = no; examples = worked_amounts }
 
-pub returns-in-default : goal.returns-in-default
-returns-in-default c =
-    let at = found (goal.at.returns-in-default c).After-split-sign-sign in
-    let no : (z : ℤ) → Says c.args.bytes.now z → ⊥ = λ z s. c.in-default.ensures (said_digits s at) in
+pub returns-in_default : goal.returns-in_default
+returns-in_default c =
+    let at = found (goal.at.returns-in_default c).After-split_sign-sign in
+    let no : (z : ℤ) → Says c.args.bytes.now z → ⊥ = λ z s. c.in_default.ensures (said_digits s at) in
     record { says = (refl, no); only = no; examples = worked_amounts }
 
-pub returns-in-default-numeral : goal.returns-in-default-numeral
-returns-in-default-numeral c =
-    let at = found (goal.at.returns-in-default-numeral c).After-split-sign-sign in
+pub returns-in_default-numeral : goal.returns-in_default-numeral
+returns-in_default-numeral c =
+    let at = found (goal.at.returns-in_default-numeral c).After-split_sign-sign in
     let no : (z : ℤ) → Says c.args.bytes.now z → ⊥ = λ z s.
-    c.in-default-numeral.ensures (subst Digits (sym (cents _ s.ten)) (said_fraction_digits s at)) in
+    c.in_default-numeral.ensures (subst Digits (sym (cents _ s.ten)) (said_fraction_digits s at)) in
     record { says = (refl, no); only = no; examples = worked_amounts }
 
-pub overflow-mul-whole : goal.overflow-mul-whole
-overflow-mul-whole c =
+pub overflow_mul-whole : goal.overflow_mul-whole
+overflow_mul-whole c =
     let whole = c.in-Some.ensures in
     record { fits = omega (arith, whole.1, number_short _ 6 whole.0 c.if-digits-gt6.false) }
 
-pub overflow-add-whole : goal.overflow-add-whole
-overflow-add-whole c =
+pub overflow_add-whole : goal.overflow_add-whole
+overflow_add-whole c =
     let whole = c.in-Some.ensures in
     let fraction = c.in-Some-numeral.ensures in
     let two : length (take 2 (drop 8 c.args.bytes.now)) ≤ 2 = omega (arith, length-take 2 (drop 8 c.args.bytes.now)) in
@@ -71,13 +71,13 @@ overflow-add-whole c =
 
 pub returns : goal.returns
 returns c =
-    let at = found (goal.at.returns c).After-split-sign-sign in
+    let at = found (goal.at.returns c).After-split_sign-sign in
     let whole = c.in-Some.ensures in
     let fraction = c.in-Some-numeral.ensures in
     let tail = cents _ at.ten in
-    let some : 1 ≤ length c.split-sign-sign.result.1.now = omega (arith, eqb-false _ 0 (sym c.is-empty.ensures ∙ c.if-is-empty.false)) in
+    let some : 1 ≤ length c.split_sign-sign.result.1.now = omega (arith, eqb-false _ 0 (sym c.is_empty.ensures ∙ c.if-is_empty.false)) in
     let said = found_says at whole.0 some c.if-digits-gt6.false (subst Digits tail fraction.0) in
     let sum = ap (λ n. 100 * c.in-Some.whole + n) (fraction.1 ∙ ap number tail) ∙ ap (λ n. 100 * n + number (drop 8 c.args.bytes.now)) whole.1 in
-    let is = c.times.ensures ∙ ap (signed c.split-sign-sign.result.0) sum in
+    let is = c.times.ensures ∙ ap (signed c.split_sign-sign.result.0) sum in
     let says : Says c.args.bytes.now c.times.result.cents = subst (Says c.args.bytes.now) (sym is) said in
     record { says = says; only = λ z s. says_once says s; examples = worked_amounts }

@@ -17,8 +17,8 @@ one_more text rest some space within whole =
 pub loop-rest-preserved : goal.loop-rest-preserved
 loop-rest-preserved c = one_more c.args.text.now c.loop-rest.rest.now (omega (arith, ltb-false)) (omega arith) c.loop-rest.invariant.0 c.loop-rest.invariant.1
 
-pub returns-in-default : goal.returns-in-default
-returns-in-default c =
+pub returns-in_default : goal.returns-in_default
+returns-in_default c =
     let rest = c.loop-rest.rest.now in
     let none : get_or rest 0 0 ≡ 0 = get_or_past rest 0 0 (omega (arith, ltb-true)) in
     record { layout = c.loop-rest.invariant.1; bare = λ e. omega arith }

@@ -14,4 +14,4 @@ read bytes None one h = λ p e. h p (ap (λ l. get_or l 0 0) e)
 read bytes (Some p) one h = alone bytes one ∙ ap (λ b. b ∷ []) h
 
 pub returns : goal.returns
-returns c = read c.args.bytes.now c.from-letter.result (omega (arith, ltb-true, ltb-false)) c.from-letter.ensures
+returns c = read c.args.bytes.now c.from_letter.result (omega (arith, ltb-true, ltb-false)) c.from_letter.ensures

@@ -12,27 +12,27 @@ use Rattle.records.proofs.writer.amount_bytes.Goals as goal
 some : (at size : ℕ) → size ≤ 99999999 → at + length (decimal (size / 100)) ≡ 7 → 1 ≤ at
 some at size few room = omega (arith, length-decimal-le 6 (size / 100) (omega arith) (omega arith) (omega arith))
 
-pub overflow-sub-out : goal.overflow-sub-out
-overflow-sub-out c =
+pub overflow_sub-out : goal.overflow_sub-out
+overflow_sub-out c =
     let z = c.args.amount.cents in
     let fits : SFits w64 z = search rules in
-    let size : c.unsigned-abs-size.result ≡ nat_abs z = search (rules, to_z-of_z) in
-    some _ _ (omega (arith, size, c.requires)) c.put-right-at.ensures.place
+    let size : c.unsigned_abs-size.result ≡ nat_abs z = search (rules, to_z-of_z) in
+    some _ _ (omega (arith, size, c.requires)) c.put_right-at.ensures.place
 
 pub returns-then-value-lt0 : goal.returns-then-value-lt0
 returns-then-value-lt0 c =
     let z = c.args.amount.cents in
     let fits : SFits w64 z = search rules in
-    let size : c.unsigned-abs-size.result ≡ nat_abs z = search (rules, to_z-of_z) in
+    let size : c.unsigned_abs-size.result ≡ nat_abs z = search (rules, to_z-of_z) in
     let less : lt_z z (pos 0) ≡ true = search (rules, to_z-of_z) in
-    put_minus _ _ _ _ _ c.put-right-at.ensures.place c.put-right-at.ensures.after (some _ _ (omega (arith, size, c.requires)) c.put-right-at.ensures.place)
+    put_minus _ _ _ _ _ c.put_right-at.ensures.place c.put_right-at.ensures.after (some _ _ (omega (arith, size, c.requires)) c.put_right-at.ensures.place)
     ∙ ap (λ n. right 10 32 (45 ∷ unsigned n)) size ∙ ap (right 10 32) (sym (below_zero z less))
 
 pub returns-else-value-lt0 : goal.returns-else-value-lt0
 returns-else-value-lt0 c =
     let z = c.args.amount.cents in
     let fits : SFits w64 z = search rules in
-    let size : c.unsigned-abs-size.result ≡ nat_abs z = search (rules, to_z-of_z) in
+    let size : c.unsigned_abs-size.result ≡ nat_abs z = search (rules, to_z-of_z) in
     let less : lt_z z (pos 0) ≡ false = search (rules, to_z-of_z) in
-    put_plain _ _ _ _ _ c.put-right-at.ensures.place c.put-right-at.ensures.after
+    put_plain _ _ _ _ _ c.put_right-at.ensures.place c.put_right-at.ensures.after
     ∙ ap (λ n. right 10 32 (unsigned n)) size ∙ ap (right 10 32) (sym (from_zero z less))

@@ -7,8 +7,8 @@ use Rattle.shapes.proofs.balance.least_power.Goals as goal
 above : (size reach power j : ℕ) → reach ≡ 2 ^ power → reach < size → size ≤ 2 ^ j → power < j
 above size reach power j is less enough = ⊎_elim (λ lt. lt) (λ ge. absurd (omega (arith, pow_mono {i = j} {j = power} ge))) (cases_lt power j)
 
-pub overflow-mul-reach : goal.overflow-mul-reach
-overflow-mul-reach c = omega (arith, c.loop-reach.invariant.0, pow_mono {i = c.loop-reach.power} {j = 62} (omega (arith, c.loop-reach.invariant.1)))
+pub overflow_mul-reach : goal.overflow_mul-reach
+overflow_mul-reach c = omega (arith, c.loop-reach.invariant.0, pow_mono {i = c.loop-reach.power} {j = 62} (omega (arith, c.loop-reach.invariant.1)))
 
 pub loop-reach-preserved : goal.loop-reach-preserved
 loop-reach-preserved c =

@@ -8,15 +8,15 @@ returns-in-Leaf t c = found_leaf c.requires.hangs _ _ _ c.in-Leaf.is c.requires.
 
 pub descend-index-requires : goal.descend-index-requires
 descend-index-requires t c =
-    let at = child_of (hangs_concat c.requires.hangs _ _ _ _ c.in-Concat.is) _ _ _ _ c.requires.within c.size.ensures c.child-at-child.ensures.left c.child-at-child.ensures.right in
+    let at = child_of (hangs_concat c.requires.hangs _ _ _ _ c.in-Concat.is) _ _ _ _ c.requires.within c.size.ensures c.child_at-child.ensures.left c.child_at-child.ensures.right in
     (omega (arith, c.decreases, at.less), (at.hangs, at.within))
 
-pub overflow-add-result-in-Concat : goal.overflow-add-result-in-Concat
-overflow-add-result-in-Concat t c =
-    let at = child_of (hangs_concat c.requires.hangs _ _ _ _ c.in-Concat.is) _ _ _ _ c.requires.within c.size.ensures c.child-at-child.ensures.left c.child-at-child.ensures.right in
-    omega (arith, found_met at.hangs c.descend-index.ensures, at.before, hangs_within c.requires.hangs, c.well-formed)
+pub overflow_add-result-in-Concat : goal.overflow_add-result-in-Concat
+overflow_add-result-in-Concat t c =
+    let at = child_of (hangs_concat c.requires.hangs _ _ _ _ c.in-Concat.is) _ _ _ _ c.requires.within c.size.ensures c.child_at-child.ensures.left c.child_at-child.ensures.right in
+    omega (arith, found_met at.hangs c.descend-index.ensures, at.before, hangs_within c.requires.hangs, c.well_formed)
 
 pub returns-in-Concat : goal.returns-in-Concat
 returns-in-Concat t c =
-    let at = child_of (hangs_concat c.requires.hangs _ _ _ _ c.in-Concat.is) _ _ _ _ c.requires.within c.size.ensures c.child-at-child.ensures.left c.child-at-child.ensures.right in
+    let at = child_of (hangs_concat c.requires.hangs _ _ _ _ c.in-Concat.is) _ _ _ _ c.requires.within c.size.ensures c.child_at-child.ensures.left c.child_at-child.ensures.right in
     at.found _ _ c.descend-index.ensures

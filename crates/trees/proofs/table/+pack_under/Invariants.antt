@@ -1,5 +1,5 @@
 use Rattle.trees.proofs.table.+pack_under.Given as goal
 
 -- the number of leaves falls
-abbrev pub decreases-pack-under : goal.decreases-pack-under
-decreases-pack-under l = l.leaves
+abbrev pub decreases-pack_under : goal.decreases-pack_under
+decreases-pack_under l = l.leaves

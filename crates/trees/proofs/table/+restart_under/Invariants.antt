@@ -4,5 +4,5 @@ use Rattle.shapes.specs.declared.node.Node.TheVariants.{Leaf}
 use Rattle.trees.proofs.table.+restart_under.Given as goal
 
 -- the depth of the node falls
-abbrev pub decreases-restart-under : goal.decreases-restart-under
-decreases-restart-under l = depth_of (get_or l.nodes.now l.at (Leaf 0 0))
+abbrev pub decreases-restart_under : goal.decreases-restart_under
+decreases-restart_under l = depth_of (get_or l.nodes.now l.at (Leaf 0 0))

@@ -4,4 +4,4 @@ use Rattle.drafts.proofs.Drafts.{draft_kept}
 use Rattle.drafts.proofs.draft.Draft.count_parentless.Goals as goal
 
 pub returns : goal.returns
-returns c = c.count-unset.ensures ∙ ap (count_by not) c.as-slice.ensures.value ∙ kept_count (draft_kept c.args.self.now)
+returns c = c.count_unset.ensures ∙ ap (count_by not) c.as_slice.ensures.value ∙ kept_count (draft_kept c.args.self.now)

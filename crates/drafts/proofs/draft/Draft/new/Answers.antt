@@ -3,10 +3,10 @@ use Rattle.shapes.specs.Nodes.{node_of, shapes, Sound}
 use Rattle.shapes.specs.Drafts.{Drafted, nothing, parent_flags, elements}
 use Rattle.drafts.proofs.draft.Draft.new.Goals as goal
 
-pub invariant-of-result : goal.invariant-of-result
-invariant-of-result c =
-    let nodes = c.in-ok-reserved.ensures in
-    let flags = c.in-ok-reserved-2.ensures in (
+pub invariant_of-result : goal.invariant_of-result
+invariant_of-result c =
+    let nodes = c.in_ok-reserved.ensures in
+    let flags = c.in_ok-reserved-2.ensures in (
       nodes.1,
       (
         flags.1,

@@ -9,21 +9,21 @@ use Rattle.drafts.proofs.Drafts.{draft_kept}
 use Rattle.drafts.proofs.Worked.{chains}
 use Rattle.drafts.proofs.draft.Draft.sealable.Goals as goal
 
-pub returns-then-count-parentless-ne1 : goal.returns-then-count-parentless-ne1
-returns-then-count-parentless-ne1 c = record { examples = chains; sealable = search rules }
+pub returns-then-count_parentless-ne1 : goal.returns-then-count_parentless-ne1
+returns-then-count_parentless-ne1 c = record { examples = chains; sealable = search rules }
 
-pub overflow-add-least-power : goal.overflow-add-least-power
-overflow-add-least-power c = omega (arith, c.least-power.ensures.least 64 (omega (arith, c.size.type-inv)))
+pub overflow_add-least_power : goal.overflow_add-least_power
+overflow_add-least_power c = omega (arith, c.least_power.ensures.least 64 (omega (arith, c.size.type_inv)))
 
-pub returns-then-depth-least-power : goal.returns-then-depth-least-power
-returns-then-depth-least-power c =
+pub returns-then-depth-least_power : goal.returns-then-depth-least_power
+returns-then-depth-least_power c =
     let d = c.args.self.now in
     let t = last_shape (draft_nodes d) in
-    let one = sym c.count_parentless.ensures ∙ c.if-count-parentless-ne1.false in
-    let power = subst (λ n. LeastPower n c.least-power.result) (c.size.ensures ∙ c.last-node-root.ensures.size) c.least-power.ensures in
+    let one = sym c.count_parentless.ensures ∙ c.if-count_parentless-ne1.false in
+    let power = subst (λ n. LeastPower n c.least_power.result) (c.size.ensures ∙ c.last_node-root.ensures.size) c.least_power.ensures in
     record {
       examples = chains;
-      sealable = (one, λ all. omega (arith, all t (kept_root (draft_kept d) one) c.least-power.result power, c.depth.ensures, c.last-node-root.ensures.depth, c.if-depth-least-power.true));
+      sealable = (one, λ all. omega (arith, all t (kept_root (draft_kept d) one) c.least_power.result power, c.depth.ensures, c.last_node-root.ensures.depth, c.if-depth-least_power.true));
     }
 
 pub returns : goal.returns
@@ -31,9 +31,9 @@ returns c =
     let d = c.args.self.now in
     let t = last_shape (draft_nodes d) in
     let k = draft_kept d in
-    let one = sym c.count_parentless.ensures ∙ c.if-count-parentless-ne1.false in
+    let one = sym c.count_parentless.ensures ∙ c.if-count_parentless-ne1.false in
     let root = kept_root k one in
-    let power = subst (λ n. LeastPower n c.least-power.result) (c.size.ensures ∙ c.last-node-root.ensures.size) c.least-power.ensures in
-    let low : depth t ≤ c.least-power.result + 2 = omega (arith, c.depth.ensures, c.last-node-root.ensures.depth, c.if-depth-least-power.false) in
+    let power = subst (λ n. LeastPower n c.least_power.result) (c.size.ensures ∙ c.last_node-root.ensures.size) c.least_power.ensures in
+    let low : depth t ≤ c.least_power.result + 2 = omega (arith, c.depth.ensures, c.last_node-root.ensures.depth, c.if-depth-least_power.false) in
     let balanced : Balanced t = balanced_by t _ power low in
     record { examples = chains; sealable = ((one, (root_balanced (draft_shapes d) t root balanced, tt)), grown_sealed k one balanced, root) }

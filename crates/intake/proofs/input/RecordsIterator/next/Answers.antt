@@ -21,7 +21,7 @@ returns-in-Some c =
 pub returns-in-None : goal.returns-in-None
 returns-in-None c =
     let bs = c.args.self.now.rest.now in
-    let some : 0 < length bs = omega (arith, eqb-false (length bs) 0 (sym c.is-empty.ensures ∙ c.if-is-empty.false)) in
+    let some : 0 < length bs = omega (arith, eqb-false (length bs) 0 (sym c.is_empty.ensures ∙ c.if-is_empty.false)) in
     let tail = take_rest bs (length bs) ∙ drop_all (length bs) bs (omega arith) in
     record {
       steps = cut_none bs some c.in-None.ensures ∙ ap (λ l. bs ∷ records l) (sym tail);

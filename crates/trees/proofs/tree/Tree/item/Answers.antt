@@ -3,8 +3,8 @@ use Rattle.std.proofs.lemmas.List.{get_or_read}
 use Rattle.shapes.proofs.Reading.{placed_within, placed_end, placed_reads, started_whole}
 use Rattle.trees.proofs.tree.Tree.item.Goals as goal
 
-pub offset-bounds-elements-index : goal.offset-bounds-elements-index
-offset-bounds-elements-index g c = omega (arith, placed_end c.in-Some.ensures.found.placed, c.args.self.now.ended, c.requires)
+pub offset_bounds-elements-index : goal.offset_bounds-elements-index
+offset_bounds-elements-index g c = omega (arith, placed_end c.in-Some.ensures.found.placed, c.args.self.now.ended, c.requires)
 
 pub bounds-elements-index : goal.bounds-elements-index
 bounds-elements-index g c = omega (arith, placed_end c.in-Some.ensures.found.placed, c.args.self.now.ended, c.requires)

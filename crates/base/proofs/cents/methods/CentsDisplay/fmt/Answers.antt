@@ -8,21 +8,21 @@ use Rattle.base.proofs.cents.methods.CentsDisplay.fmt.Goals as goal
 use Rattle.base.proofs.cents.methods.CentsDisplay.fmt.Goals.{then-amount-lt0, else-amount-lt0}
 
 -- what is printed is the amount's text
-text : (g : given.Over) (c : goal.After-write g) → c.if-amount-lt0.sign.now ++ unsigned c.unsigned-abs-size.result ≡ dollars c.args.self.now.cents
+text : (g : given.Over) (c : goal.After-write g) → c.if-amount-lt0.sign.now ++ unsigned c.unsigned_abs-size.result ≡ dollars c.args.self.now.cents
 text g c =
     let z = c.args.self.now.cents in
     let fits : SFits w64 z = search rules in
-    let size : c.unsigned-abs-size.result ≡ nat_abs z = simp to_z-of_z at c.unsigned-abs-size.ensures.value in
+    let size : c.unsigned_abs-size.result ≡ nat_abs z = simp to_z-of_z at c.unsigned_abs-size.ensures.value in
     elim c.if-amount-lt0.branch [
-      | then-amount-lt0 w ↦ ap (λ s. s.now ++ unsigned c.unsigned-abs-size.result) w.sign-is ∙ ap (λ n. 45 ∷ unsigned n) size ∙ sym (below_zero z (simp to_z-of_z at w.if-amount-lt0.true))
-      | else-amount-lt0 w ↦ ap (λ s. s.now ++ unsigned c.unsigned-abs-size.result) w.sign-is ∙ ap unsigned size ∙ sym (from_zero z (simp to_z-of_z at w.if-amount-lt0.false))
+      | then-amount-lt0 w ↦ ap (λ s. s.now ++ unsigned c.unsigned_abs-size.result) w.sign-is ∙ ap (λ n. 45 ∷ unsigned n) size ∙ sym (below_zero z (simp to_z-of_z at w.if-amount-lt0.true))
+      | else-amount-lt0 w ↦ ap (λ s. s.now ++ unsigned c.unsigned_abs-size.result) w.sign-is ∙ ap unsigned size ∙ sym (from_zero z (simp to_z-of_z at w.if-amount-lt0.false))
     ]
 
 pub returns-clause-writes : goal.returns-clause-writes
 returns-clause-writes g c plain ok =
     let sign = c.if-amount-lt0.sign.now in
-    let size = c.unsigned-abs-size.result in
-    let tens = c.last-digit-tens.ensures in
-    let units = c.last-digit-units.ensures in
-    let digits = ap (λ d. sign ++ (decimal (size / 100) ++ (46 ∷ (decimal d ++ decimal c.last-digit-units.result)))) tens ∙ ap (λ d. sign ++ (decimal (size / 100) ++ (46 ∷ (decimal (size / 10 % 10) ++ decimal d)))) units in
+    let size = c.unsigned_abs-size.result in
+    let tens = c.last_digit-tens.ensures in
+    let units = c.last_digit-units.ensures in
+    let digits = ap (λ d. sign ++ (decimal (size / 100) ++ (46 ∷ (decimal d ++ decimal c.last_digit-units.result)))) tens ∙ ap (λ d. sign ++ (decimal (size / 100) ++ (46 ∷ (decimal (size / 10 % 10) ++ decimal d)))) units in
     subst (λ bs. HasWritten g.W.Write.write_str_gives c.args.f.now bs c.write.new.self) (digits ∙ ap (λ t. sign ++ t) (pieces size) ∙ text g c) (c.write.ensures.writes plain ok)
