@@ -1,8 +1,7 @@
 -- What the laws of a joining give of folds. Assumes nothing.
 use Rattle.std.proofs.Common.{◌≡◌, ℕ, ◌+◌, ◌<◌, ◌≤◌, List, [], ◌∷◌, ◌++◌, length, get_or, take, fold, sym, ap, ◌∙◌}
-use Rattle.std.proofs.iter.runs.Lists.{fold_append as folded_append}
 use Rattle.std.proofs.lemmas.List.{take_all}
-use Rattle.std.proofs.lemmas.List.Sums.{fold_push as folded_push, fold_more as folded_more}
+use Rattle.std.proofs.lemmas.List.Sums.{fold-append, fold_push as folded_push, fold_more as folded_more}
 use Rattle.interfaces.specs.Folds.{fold_of, Concatenates}
 
 -- these hold with no law
@@ -27,4 +26,4 @@ module _ {V : Type 0} (zero : V) (join : V → V → V) (assoc : (a b c : V) →
 
   -- one list behind another
   pub fold_append : Concatenates zero join
-  fold_append xs ys = folded_append join zero xs ys ∙ fold_from (fold_of zero join xs) ys
+  fold_append xs ys = fold-append join zero xs ys ∙ fold_from (fold_of zero join xs) ys

@@ -2,7 +2,7 @@ use Rattle.std.proofs.Common.{◌≡◌, ℕ, ◌-◌, ◌<◌, List, ◌∷◌,
 use Rattle.std.proofs.lemmas.List.{get_or_past}
 use Rattle.std.proofs.lemmas.Slice.{first_rest}
 use Rattle.records.proofs.amount.split_sign.Goals as goal
-use Rattle.records.proofs.amount.split_sign.Goals.{in_default-via-then-text-lt1, in_default-via-else-text-lt1+in-default·}
+use Rattle.records.proofs.amount.split_sign.Goals.{in_default-via-then-text-lt1, in_default-via-else-text-lt1+in_default-1}
 
 -- the first byte, and what stands behind it
 cut : (text : List ℕ) (b : ℕ) → 0 < length text → get_or text 0 0 ≡ b → text ≡ b ∷ take (length text - 1) (drop 1 text)
@@ -27,5 +27,5 @@ returns-in_default c =
       | in_default-via-then-text-lt1 w ↦
           let none : get_or text 0 0 ≡ 0 = get_or_past text 0 0 (omega (arith, ltb-true)) in
           record { layout = refl; bare = λ _. (λ e. omega arith, λ e. omega arith) }
-      | in_default-via-else-text-lt1+in-default· w ↦ record { layout = refl; bare = λ _. (λ e. omega arith, λ e. omega arith) }
+      | in_default-via-else-text-lt1+in_default-1 w ↦ record { layout = refl; bare = λ _. (λ e. omega arith, λ e. omega arith) }
     ]
