@@ -6,19 +6,12 @@ use Rattle.drafts.proofs.draft.Draft.new.Goals as goal
 pub invariant_of-result : goal.invariant_of-result
 invariant_of-result c =
     let nodes = c.in_ok-reserved.ensures in
-    let flags = c.in_ok-reserved-2.ensures in (
-      nodes.1,
-      (
-        flags.1,
-        (
-          subst Sound (sym nodes.0) refl,
-          (
-            ∣ subst (λ xs. Drafted (shapes xs)) (sym nodes.0) nothing ∣₁,
-            (
-              flags.0 ∙ sym (ap (λ xs. parent_flags (shapes xs)) nodes.0),
-              (sym (ap (λ xs. elements (shapes xs)) nodes.0), tt),
-            ),
-          ),
-        ),
-      ),
-    )
+    let flags = c.in_ok-reserved-2.ensures in
+    record {
+      room = nodes.1;
+      flags_room = flags.1;
+      sound = subst Sound (sym nodes.0) refl;
+      drafted = ∣ subst (λ xs. Drafted (shapes xs)) (sym nodes.0) nothing ∣₁;
+      flagged = flags.0 ∙ sym (ap (λ xs. parent_flags (shapes xs)) nodes.0);
+      counted = sym (ap (λ xs. elements (shapes xs)) nodes.0);
+    }
