@@ -1,4 +1,4 @@
-use Rattle.std.proofs.Common.{◌+◌, length, take, ◌+ℤ◌, sym, refl, ap, ◌∙◌, arith, length-take, w64}
+use Rattle.std.proofs.Common.{◌≡◌, ◌+◌, length, take, ◌+ℤ◌, sym, refl, ap, ◌∙◌, arith, length-take, w64, rules}
 use Rattle.std.proofs.lemmas.List.{length_push, take_all}
 use Rattle.std.specs.Int.{int_wrap}
 use Rattle.reports.specs.Pools.{lines_of, total}
@@ -21,13 +21,15 @@ loop-line-preserved c =
     let l = c.line-item.result in
     elim c.if-eq.branch [
       | then-eq w ↦
-          let more = taken p ls i l c.loop-line-test.true c.line-item.is w.if-eq.ensures in (
+          let same : l.pool ≡ p = search rules in
+          let more = taken p ls i l c.loop-line-test.true c.line-item.is same in (
             omega arith,
             w.count-is ∙ ap (λ n. n + 1) c.loop-line.invariant.1 ∙ sym (length_push (lines_of p (take i ls)) l) ∙ ap length (sym more),
             ap (λ t. t.cents) w.total-is ∙ w.wrapping_add-total.ensures ∙ ap (λ z. int_wrap w64 (z +ℤ l.amount.cents)) c.loop-line.invariant.2 ∙ total_push (lines_of p (take i ls)) l ∙ ap total (sym more),
           )
       | else-eq w ↦
-          let same = passed p ls i l c.loop-line-test.true c.line-item.is w.if-eq.ensures in
+          let other : l.pool ≡ p → ⊥ = search rules in
+          let same = passed p ls i l c.loop-line-test.true c.line-item.is other in
           (omega arith, w.count-is ∙ c.loop-line.invariant.1 ∙ ap length (sym same), ap (λ t. t.cents) w.total-is ∙ c.loop-line.invariant.2 ∙ ap total (sym same))
     ]
 
