@@ -1,14 +1,13 @@
 -- The worked examples. Assumes nothing.
-use Rattle.std.proofs.Common.{◌≡◌, ℕ, zero, suc, ◌+◌, ◌-◌, ◌*◌, ◌^◌, ◌<◌, ◌≤◌, false, List, [], ◌∷◌, ◌++◌, length, sym, refl, ◌∙◌, subst, ⊎_elim, arith, pow_mono}
+use Rattle.std.proofs.Common.{◌≡◌, ℕ, zero, suc, ◌+◌, ◌-◌, ◌*◌, ◌<◌, ◌≤◌, false, List, [], ◌∷◌, ◌++◌, length, sym, refl, ◌∙◌, ⊎_elim, arith, pow_mono}
 use Rattle.std.proofs.lemmas.List.{length_push}
 use Rattle.std.proofs.lemmas.List.Sums.{sum_by_push}
 use Rattle.std.proofs.lemmas.Bool.{cases_lt}
-use Rattle.shapes.specs.Shapes.{Shape, depth, size}
-use Rattle.shapes.specs.Balance.{LeastPower, Balanced}
+use Rattle.shapes.specs.Shapes.{Shape}
+use Rattle.shapes.specs.Balance.{LeastPower}
 use Rattle.shapes.specs.Drafts.{Drafted, nothing, a_leaf, a_concat, has_parent, parentless, own, elements, next_leaf, next_concat}
 use Rattle.shapes.proofs.Drafting.{or_false, has_parent_push, newest_parentless}
 use Rattle.shapes.proofs.Growing.{balanced_by, root_balanced}
-use Rattle.drafts.specs.Calls.{seal_asks}
 use Rattle.drafts.specs.Examples.{longer, chain, top, Chains}
 
 -- eight is the least power of two that is six or seven at least

@@ -1,5 +1,5 @@
 -- Which runners do not start. Assumes nothing.
-use Rattle.std.specs.Prelude.{◌≡◌, ◌-◌, Bool, true, false, ◌&&◌, set, replicate, Ok, Err, Result, ◌≢◌, nat_le, slice_index_or, slice_set}
+use Rattle.std.specs.Prelude.{◌≡◌, ◌-◌, Bool, true, false, ◌&&◌, replicate, Ok, Err, Result, ◌≢◌, nat_le, slice_index_or, slice_set}
 use Rattle.base.specs.declared.refusal.Refusal.{Refusal}
 use Rattle.base.specs.declared.refusal.Refusal.TheVariants.{Field}
 use Rattle.lines.specs.declared.line.Runner.{Runner}

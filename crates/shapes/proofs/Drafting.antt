@@ -1,10 +1,10 @@
 -- What always holds of drafts. Assumes nothing.
-use Rattle.std.proofs.Common.{◌≡◌, ℕ, suc, ◌+◌, ◌-◌, ◌<◌, ◌≤◌, max, Bool, true, false, cond, not, ◌||◌, eqb, ltb, List, [], ◌∷◌, ◌++◌, map, length, get_or, set, sum_by, count_by, filter, sym, refl, ap, ◌∙◌, subst, ⊎_elim, arith}
+use Rattle.std.proofs.Common.{◌≡◌, ℕ, suc, ◌+◌, ◌-◌, ◌<◌, ◌≤◌, max, Bool, true, false, cond, not, ◌||◌, eqb, ltb, List, [], ◌∷◌, ◌++◌, map, length, get_or, set, count_by, filter, sym, refl, ap, ◌∙◌, subst, ⊎_elim, arith}
 use mathlib.Core.Path.{fun_ext}
-use Rattle.std.proofs.lemmas.List.{length_push, length-map, length-set, map_push, get_or_append_left, get_or_push, get_or-map, get_or-set_same, get_or-set_other, ext_get_or, nil_from_length, length-append}
+use Rattle.std.proofs.lemmas.List.{length_push, length-map, length-set, map_push, get_or_append_left, get_or_push, get_or-map, get_or-set_same, get_or-set_other, ext_get_or, nil_from_length}
 use Rattle.std.proofs.lemmas.List.Elements.{filter-append}
 use Rattle.std.proofs.lemmas.List.Sums.{sum_by_push, sum_by-cons, length-filter}
-use Rattle.std.proofs.lemmas.Bool.{cases_lt, cases_eq, cases_Bool, eq-eqb, ne_eqb, lt-ltb, le-ltb, or_from, or_left, or_right}
+use Rattle.std.proofs.lemmas.Bool.{cases_lt, cases_eq, eq-eqb, ne_eqb, lt-ltb, le-ltb, or_from, or_right}
 use Rattle.shapes.specs.Shapes.{Shape, leaf, concat, number, size, same, occurs, widest, end}
 use Rattle.shapes.specs.Nodes.{shape_at}
 use Rattle.shapes.specs.Drafts.{child, has_parent, parentless, Parentless, parent_flags, own, elements, next_leaf, next_concat, Drafted, nothing, a_leaf, a_concat}

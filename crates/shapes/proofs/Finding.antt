@@ -1,8 +1,8 @@
 -- The way from a node down to the leaf of a position. Assumes nothing.
-use Rattle.std.proofs.Common.{◌≡◌, ℕ, suc, ◌+◌, ◌-◌, ◌<◌, ◌≤◌, List, length, get_or, sym, refl, ap, ◌∙◌, subst, ⊎_elim, add-one, arith}
+use Rattle.std.proofs.Common.{◌≡◌, ℕ, suc, ◌+◌, ◌-◌, ◌<◌, ◌≤◌, List, get_or, sym, refl, ◌∙◌, subst, ⊎_elim, add-one, arith}
 use Rattle.std.proofs.lemmas.Bool.{cases_lt}
 use Rattle.shapes.specs.declared.node.Node.{Node}
-use Rattle.shapes.specs.declared.node.Node.TheVariants.{Leaf, Concat}
+use Rattle.shapes.specs.declared.node.Node.TheVariants.{Leaf}
 use Rattle.shapes.specs.Shapes.{Shape, leaf, concat, number, size}
 use Rattle.shapes.specs.Nodes.{size_of, depth_of, Stands}
 use Rattle.shapes.specs.Places.{Placed, here, on_left, on_right, Found, FoundOnly}

@@ -1,5 +1,5 @@
 -- The tables that are a tree's: a single leaf, a packed tree, a tree whose leaves were started anew, a sealed draft. Assumes nothing.
-use Rattle.std.proofs.Common.{◌≡◌, ℕ, zero, suc, ◌+◌, ◌-◌, ◌*◌, ◌/◌, ◌^◌, ◌<◌, ◌≤◌, max, Bool, List, [], ◌∷◌, ◌++◌, length, get_or, replicate, sym, refl, ap, ◌∙◌, subst, ⊎_elim, arith}
+use Rattle.std.proofs.Common.{◌≡◌, ℕ, zero, suc, ◌+◌, ◌-◌, ◌*◌, ◌<◌, ◌≤◌, max, Bool, List, [], ◌∷◌, ◌++◌, length, get_or, replicate, sym, ap, ◌∙◌, subst, ⊎_elim, arith}
 use mathlib.Core.Logic.{∥∥₁_elim}
 use native.Mathlib.Bridge.{le_prop}
 use native.Mathlib.Nat.{ℕ_set}
@@ -7,7 +7,7 @@ use Rattle.std.proofs.lemmas.List.{get_or_read}
 use Rattle.std.proofs.lemmas.Bool.{cases_lt}
 use Rattle.shapes.specs.declared.node.Node.{Node}
 use Rattle.shapes.specs.declared.node.Node.TheVariants.{Leaf}
-use Rattle.shapes.specs.Shapes.{Shape, leaf, concat, number, size, depth, nodes, occurs, leaf_sizes, widest, end, Started, Alike, restarted}
+use Rattle.shapes.specs.Shapes.{Shape, leaf, concat, number, size, depth, occurs, leaf_sizes, widest, end, Started, Alike, restarted}
 use Rattle.shapes.specs.Balance.{LeastPower, Balanced}
 use Rattle.shapes.specs.Packed.{leaves_for, Packed, PackedAs}
 use Rattle.shapes.specs.Nodes.{size_of, depth_of, shape_at, shapes, last_shape, Sound, Stands}

@@ -1,11 +1,11 @@
 -- Shapes that stand in a table whose nodes change. Assumes nothing.
-use Rattle.std.proofs.Common.{◌≡◌, ℕ, suc, ◌+◌, ◌^◌, ◌<◌, ◌≤◌, max, cond, eqb, List, [], ◌∷◌, ◌++◌, length, get_or, set, sym, refl, ap, ◌∙◌, subst, arith}
+use Rattle.std.proofs.Common.{◌≡◌, ℕ, ◌+◌, ◌^◌, ◌<◌, ◌≤◌, max, cond, List, ◌++◌, length, get_or, set, sym, refl, ap, ◌∙◌, subst, arith}
 use Rattle.std.proofs.lemmas.List.{length-append, length-set, get_or_append_left, get_or-set_same, get_or-set_other}
-use Rattle.std.proofs.lemmas.Bool.{eq-eqb, ne_eqb}
+use Rattle.std.proofs.lemmas.Bool.{eq-eqb}
 use Rattle.shapes.specs.declared.node.Node.{Node}
 use Rattle.shapes.specs.declared.node.Node.TheVariants.{Leaf, Concat}
 use Rattle.shapes.specs.Shapes.{Shape, leaf, concat, number, size, depth, same, occurs, end, restarted}
-use Rattle.shapes.specs.Nodes.{node_of, size_of, depth_of, concat_node, shape_at, shapes, At, Stands}
+use Rattle.shapes.specs.Nodes.{node_of, size_of, depth_of, concat_node, shape_at, shapes, Stands}
 use Rattle.shapes.specs.Building.{Hangs, Restarts, RestartsAt}
 use Rattle.shapes.proofs.Reading.{restarted_size, restarted_depth, restarted_number, restarted_occurs}
 use Rattle.shapes.proofs.Tables.{stands_root, stands_shape, not_here}

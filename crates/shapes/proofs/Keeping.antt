@@ -1,5 +1,5 @@
 -- What a draft keeps, and keeps keeping. Assumes nothing.
-use Rattle.std.proofs.Common.{◌≡◌, ℕ, ◌+◌, ◌-◌, ◌^◌, ◌<◌, ◌≤◌, max, Bool, true, false, not, List, [], ◌∷◌, ◌++◌, length, get_or, set, MatchBool, count_by, sym, refl, ap, ◌∙◌, subst, arith}
+use Rattle.std.proofs.Common.{◌≡◌, ℕ, ◌+◌, ◌-◌, ◌<◌, ◌≤◌, Bool, true, false, not, List, [], ◌∷◌, ◌++◌, length, get_or, set, MatchBool, count_by, sym, refl, ap, ◌∙◌, subst, arith}
 use mathlib.Core.Bool.{Bool-set}
 use mathlib.Core.List.{is_set}
 use mathlib.Core.Logic.{∥∥₁_elim, ∥∥₁_prop}
@@ -10,11 +10,9 @@ use Rattle.std.proofs.lemmas.Bool.{both_ways}
 use Rattle.std.proofs.lemmas.List.Sums.{sum_by_push}
 use Rattle.shapes.specs.declared.node.Node.{Node}
 use Rattle.shapes.specs.declared.node.Node.TheVariants.{Leaf}
-use Rattle.shapes.specs.Shapes.{Shape, leaf, number, size, depth, shape_set}
-use Rattle.shapes.specs.Balance.{Balanced}
-use Rattle.shapes.specs.Nodes.{node_of, size_of, depth_of, concat_node, FitsOver, shape_at, shapes, last_shape, Sound, Stands}
+use Rattle.shapes.specs.Shapes.{Shape, leaf, number, size, shape_set}
+use Rattle.shapes.specs.Nodes.{node_of, concat_node, FitsOver, shape_at, shapes, last_shape, Stands}
 use Rattle.shapes.specs.Drafts.{has_parent, parentless, Parentless, parent_flags, own, elements, next_leaf, next_concat, Drafted, a_leaf, a_concat, Kept}
-use Rattle.shapes.specs.Trees.{Grown}
 use Rattle.shapes.proofs.Tables.{shapes_push, length_shapes, sound_push, sound_listed, listed_number, stands_at, stands_root}
 use Rattle.shapes.proofs.Hanging.{stands_size, stands_depth, depth_number, concat_node_of}
 use Rattle.shapes.proofs.Drafting.{drafted_small, pair_small, flags_at, flags_leaf, flags_concat, count_parentless, last_root}

@@ -1,5 +1,5 @@
 -- What the shelf lacks on lists. Assumes nothing.
-use Rattle.std.proofs.Common.{◌≡◌, List, [], ◌∷◌, ◌++◌, sym, subst}
+use Rattle.std.proofs.Common.{List, [], ◌∷◌, ◌++◌, sym, subst}
 use Rattle.std.proofs.lemmas.List.{append-nil, append_assoc}
 
 -- what holds of the empty list, and of a list with one more element at its end, holds of every list

@@ -1,15 +1,15 @@
 -- Packed trees: there is just one for each number of elements, it is balanced, and it is what the recursion builds. Assumes nothing.
-use Rattle.std.proofs.Common.{◌≡◌, ℕ, zero, suc, ◌+◌, ◌-◌, ◌*◌, ◌/◌, ◌^◌, ◌<◌, ◌≤◌, max, List, [], ◌∷◌, ◌++◌, length, get_or, take, drop, replicate, sum, sym, refl, ap, ◌∙◌, subst, ⊎_elim, arith, pow_pos}
+use Rattle.std.proofs.Common.{◌≡◌, ℕ, zero, suc, ◌+◌, ◌-◌, ◌*◌, ◌/◌, ◌^◌, ◌<◌, ◌≤◌, List, [], ◌∷◌, ◌++◌, length, take, drop, replicate, sum, sym, refl, ap, ◌∙◌, subst, ⊎_elim, arith, pow_pos}
 use native.Mathlib.Nat.{pow-succ'}
-use Rattle.std.proofs.lemmas.List.{append_assoc, append-nil, length-append, length_push, get_or_append_left, get_or_push, replicate_more, replicate-append-replicate, take_at, drop_at}
+use Rattle.std.proofs.lemmas.List.{append_assoc, length-append, length_push, get_or_push, replicate_more, replicate-append-replicate, take_at, drop_at}
 use Rattle.std.proofs.lemmas.List.Sums.{sum_by-append, sum_by-cons, sum_by_push}
 use Rattle.std.proofs.lemmas.Bool.{cases_lt, cases_eq}
 use Rattle.shapes.specs.declared.node.Node.{Node}
-use Rattle.shapes.specs.declared.node.Node.TheVariants.{Leaf, Concat}
-use Rattle.shapes.specs.Shapes.{Shape, leaf, concat, number, size, depth, nodes, same, occurs, leaf_sizes, widest, Started}
-use Rattle.shapes.specs.Balance.{LeastPower, Balanced}
+use Rattle.shapes.specs.declared.node.Node.TheVariants.{Leaf}
+use Rattle.shapes.specs.Shapes.{Shape, leaf, concat, number, size, depth, nodes, same, occurs, leaf_sizes, Started}
+use Rattle.shapes.specs.Balance.{Balanced}
 use Rattle.shapes.specs.Packed.{leaves_for, Halved, Numbered, Packed, PackedAs}
-use Rattle.shapes.specs.Nodes.{node_of, size_of, depth_of, concat_node, FitsOver, At, Stands}
+use Rattle.shapes.specs.Nodes.{node_of, concat_node, FitsOver, At, Stands}
 use Rattle.shapes.specs.Building.{PacksBehind}
 use Rattle.shapes.proofs.Tables.{not_here, stands_root}
 use Rattle.shapes.proofs.Hanging.{right_here, stands_append, stands_size, stands_depth, depth_number, concat_node_of}

@@ -1,8 +1,8 @@
 -- What a shape reads, where its positions lie, and its leaves started anew. Assumes nothing.
-use Rattle.std.proofs.Common.{◌≡◌, ℕ, suc, ◌+◌, ◌-◌, ◌<◌, ◌≤◌, min, max, ◌⊎◌, List, [], ◌∷◌, ◌++◌, length, get_or, take, drop, sym, refl, ap, ◌∙◌, subst, inl, inr, ⊎_elim, arith}
+use Rattle.std.proofs.Common.{◌≡◌, ℕ, suc, ◌+◌, ◌<◌, ◌≤◌, ◌⊎◌, List, ◌++◌, length, get_or, take, drop, sym, refl, ap, ◌∙◌, subst, inl, inr, ⊎_elim, arith}
 use Rattle.std.proofs.lemmas.List.{length-append, length-take, length-drop, get_or_append_left, get_or-append-add, get_or-take, get_or-drop, drop-drop, drop-take, take-append-drop, take-take, take_all}
 use Rattle.std.proofs.lemmas.Bool.{cases_lt}
-use Rattle.shapes.specs.Shapes.{Shape, leaf, concat, number, size, depth, nodes, occurs, same, widest, end, reading, EndsBeyond, EndsWithin, TooFew, Reaches, Started, Alike, restarted}
+use Rattle.shapes.specs.Shapes.{Shape, leaf, concat, number, size, depth, occurs, widest, end, reading, EndsBeyond, EndsWithin, Reaches, Started, Alike, restarted}
 use Rattle.shapes.specs.Places.{Placed, here, on_left, on_right}
 
 pub placed_within : {t : Shape} {p place level : ℕ} → Placed t p place level → p < size t

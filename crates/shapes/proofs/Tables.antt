@@ -1,11 +1,11 @@
 -- A sound table of nodes and its shapes. Assumes nothing.
-use Rattle.std.proofs.Common.{◌≡◌, ℕ, suc, ◌+◌, ◌-◌, ◌<◌, ◌≤◌, true, false, cond, eqb, ◌⊎◌, List, [], ◌∷◌, ◌++◌, map, length, get_or, take, sym, refl, ap, ◌∙◌, subst, inl, inr, ⊎_elim, arith}
-use Rattle.std.proofs.lemmas.List.{length_push, length-map, map_push, get_or_append_left, get_or_push, get_or_past, get_or-take, get_or-map, get_or_default, take-append-le, take_at, same_from_push, ext_get_or, length-take-le}
-use Rattle.std.proofs.lemmas.Bool.{cases_lt, cases_eq, eqb-true, ne_eqb}
+use Rattle.std.proofs.Common.{◌≡◌, ℕ, suc, ◌+◌, ◌<◌, ◌≤◌, cond, ◌⊎◌, List, [], ◌∷◌, ◌++◌, map, length, get_or, take, sym, refl, ap, ◌∙◌, subst, inl, inr, ⊎_elim, arith}
+use Rattle.std.proofs.lemmas.List.{length_push, length-map, map_push, get_or_append_left, get_or_push, get_or_past, get_or-take, get_or-map, take-append-le, take_at, same_from_push, ext_get_or, length-take-le}
+use Rattle.std.proofs.lemmas.Bool.{cases_lt, cases_eq, ne_eqb}
 use Rattle.shapes.specs.declared.node.Node.{Node}
 use Rattle.shapes.specs.declared.node.Node.TheVariants.{Leaf, Concat}
-use Rattle.shapes.specs.Shapes.{Shape, leaf, concat, number, size, depth, same, occurs}
-use Rattle.shapes.specs.Nodes.{node_of, size_of, depth_of, shape_at, shape_of, shapes_behind, shapes, last_shape, Sound, At, Stands}
+use Rattle.shapes.specs.Shapes.{Shape, leaf, concat, number, same, occurs}
+use Rattle.shapes.specs.Nodes.{node_of, shape_at, shape_of, shapes_behind, shapes, Sound, At, Stands}
 use Rattle.shapes.proofs.Lists.{by_push}
 
 behind_push : (ts : List Shape) (xs : List Node) (x : Node) → shapes_behind ts (xs ++ (x ∷ [])) ≡ shapes_behind ts xs ++ (shape_of (shapes_behind ts xs) x ∷ [])

@@ -1,8 +1,8 @@
 -- What is done to a table of nodes, node by node: leaves are started anew, a packed tree is hung behind. Assumes nothing.
-use Rattle.std.specs.Prelude.{◌≡◌, ℕ, ◌+◌, ◌-◌, ◌*◌, ◌^◌, ◌<◌, ◌≤◌, List, [], ◌∷◌, ◌++◌, length, replicate, slice_index_or}
+use Rattle.std.specs.Prelude.{◌≡◌, ℕ, ◌-◌, ◌*◌, ◌^◌, ◌<◌, ◌≤◌, List, [], ◌∷◌, ◌++◌, length, replicate, slice_index_or}
 use Rattle.shapes.specs.declared.node.Node.{Node}
 use Rattle.shapes.specs.declared.node.Node.TheVariants.{Leaf}
-use Rattle.shapes.specs.Shapes.{Shape, number, size, nodes, occurs, leaf_sizes, end, Started, restarted}
+use Rattle.shapes.specs.Shapes.{Shape, number, nodes, occurs, leaf_sizes, end, Started, restarted}
 use Rattle.shapes.specs.Nodes.{Stands}
 use Rattle.shapes.specs.Places.{Found}
 use Rattle.shapes.specs.Packed.{Halved, Numbered}

@@ -1,5 +1,5 @@
-use Rattle.std.proofs.Common.{[], map, sym, refl, ap, ◌∙◌, subst, arith}
-use Rattle.shapes.specs.Nodes.{node_of, shapes, Sound}
+use Rattle.std.proofs.Common.{sym, refl, ap, ◌∙◌, subst}
+use Rattle.shapes.specs.Nodes.{shapes, Sound}
 use Rattle.shapes.specs.Drafts.{Drafted, nothing, parent_flags, elements}
 use Rattle.drafts.proofs.draft.Draft.new.Goals as goal
 

@@ -1,5 +1,5 @@
-use Rattle.std.proofs.Common.{◌≡◌, ◌+◌, ◌≤◌, sym, ◌∙◌, subst, arith, rules}
-use Rattle.shapes.specs.Shapes.{size, depth}
+use Rattle.std.proofs.Common.{◌+◌, ◌≤◌, sym, ◌∙◌, subst, arith, rules}
+use Rattle.shapes.specs.Shapes.{depth}
 use Rattle.shapes.specs.Balance.{LeastPower, Balanced}
 use Rattle.shapes.specs.Nodes.{last_shape}
 use Rattle.shapes.proofs.Keeping.{kept_root}

@@ -1,6 +1,5 @@
 use Rattle.std.proofs.Common.{[], vec_items, ◌∙◌, subst}
 use Rattle.shapes.specs.Building.{PacksBehind}
-use Rattle.shapes.specs.Packed.{leaves_for}
 use Rattle.shapes.proofs.Growing.{grown_packed, packed_shape}
 use Rattle.trees.proofs.tree.methods.pack_all.Goals as goal
 
