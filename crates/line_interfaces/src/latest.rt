@@ -1,7 +1,6 @@
 // The last line seen.
-ghost use Rattle.std.specs.Prelude.{None as none_of};
+ghost use Rattle.std.specs.Prelude.{Some as some_of, None as none_of, refl};
 ghost use Rattle.line_interfaces.specs.Latests.{later};
-ghost use Rattle.std.proofs.Common.{rules};
 
 use interfaces::Joining;
 use lines::Line;
@@ -18,11 +17,11 @@ impl Joining for Latest {
 
     ghost joined = { λ _. later };
 
-    ghost assoc = { Prim.search rules };
+    ghost assoc = { λ _ a b. elim [ none_of ↦ refl | some_of line ↦ refl ] };
 
-    ghost left = { Prim.search rules };
+    ghost left = { λ _. elim [ none_of ↦ refl | some_of line ↦ refl ] };
 
-    ghost right = { Prim.search rules };
+    ghost right = { λ _ a. refl };
 
     fn neutral(&self) -> Option<Line> {
         None

@@ -1,6 +1,6 @@
 -- A record is one line at most, and a line or faulty and never both. Assumes nothing.
 use Rattle.std.proofs.Common.{◌≡◌, ℕ, List, [], ◌∷◌, ◌++◌, get_or, pos, Ok, Err, Result, sym, refl, ap, ◌∙◌, subst, arith, lit<}
-use Rattle.std.specs.List.{AllByRecursion as All}
+use Rattle.std.specs.List.{AllByRecursion}
 use Rattle.base.proofs.Money.{same_cents}
 use Rattle.lines.specs.declared.faults.LineFault.{LineFault}
 use Rattle.lines.specs.declared.line.Line.{Line}
@@ -86,7 +86,7 @@ cons_tail : {A : Type 0} {x y : A} {xs ys : List A} → x ∷ xs ≡ y ∷ ys �
 cons_tail e = cc
 
 -- the first of a list that is not fine is one alone
-first_once : {A : Type 0} (P : A → Type 0) (l m : List A) (x y : A) (xs ys : List A) → l ++ (x ∷ xs) ≡ m ++ (y ∷ ys) → All P l → (P x → ⊥) → All P m → (P y → ⊥) → x ≡ y
+first_once : {A : Type 0} (P : A → Type 0) (l m : List A) (x y : A) (xs ys : List A) → l ++ (x ∷ xs) ≡ m ++ (y ∷ ys) → AllByRecursion P l → (P x → ⊥) → AllByRecursion P m → (P y → ⊥) → x ≡ y
 first_once P [] [] x y xs ys e p no_x q no_y = cons_head e
 first_once P [] (b ∷ m) x y xs ys e p no_x q no_y = absurd (no_x (subst P (sym (cons_head e)) q.0))
 first_once P (a ∷ l) [] x y xs ys e p no_x q no_y = absurd (no_y (subst P (cons_head e) p.0))

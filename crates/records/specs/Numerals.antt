@@ -1,13 +1,13 @@
 -- Digits, and the numbers that they say. Assumes nothing.
 use Rattle.std.specs.Prelude.{◌≡◌, ℕ, ◌+◌, ◌-◌, ◌*◌, ◌≤◌, List, [], ◌∷◌}
-use Rattle.std.specs.List.{AllByRecursion as All}
+use Rattle.std.specs.List.{AllByRecursion}
 
 -- one of the bytes '0' to '9'
 abbrev pub Digit : ℕ → Type 0
 Digit b = (48 ≤ b) × (b ≤ 57)
 
 abbrev pub Digits : List ℕ → Type 0
-Digits ds = All Digit ds
+Digits ds = AllByRecursion Digit ds
 
 -- the number that digits say, read from the left after the number n
 abbrev pub number_after : ℕ → List ℕ → ℕ

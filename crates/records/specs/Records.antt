@@ -1,6 +1,6 @@
 -- The 22 bytes of a record, its five fields, and which line they say or which fault comes first. Assumes nothing.
 use Rattle.std.specs.Prelude.{◌≡◌, ℕ, List, [], ◌∷◌, ◌++◌, length, take, drop, ℤ, Some, None, Option, Result, MatchResult, slice_index_or}
-use Rattle.std.specs.List.{AllByRecursion as All}
+use Rattle.std.specs.List.{AllByRecursion}
 use Rattle.lines.specs.declared.faults.AmountFault.TheVariants.{Form}
 use Rattle.lines.specs.declared.faults.LineFault.{LineFault}
 use Rattle.lines.specs.declared.faults.LineFault.TheVariants as fault
@@ -124,7 +124,7 @@ fault_of field.Amount = fault.Amount (place field.Amount) Form
 -- The record is no line: it lacks the shape, or a field is not fine where all those to its left are.
 pub data FirstFault (row : List ℕ) : LineFault → Type 0 where
   no_shape : (Shaped row → ⊥) → FirstFault row fault.Shape
-  at_field : (left : List Field) (f : Field) (right : List Field) → all_fields ≡ left ++ (f ∷ right) → Shaped row → All (Fine row) left → (Fine row f → ⊥) → FirstFault row (fault_of f)
+  at_field : (left : List Field) (f : Field) (right : List Field) → all_fields ≡ left ++ (f ∷ right) → Shaped row → AllByRecursion (Fine row) left → (Fine row f → ⊥) → FirstFault row (fault_of f)
 
 -- Reading the next field: what it says or its fault is answered, and the field to its right comes next.
 pub record FieldRead {A : Type 0} (f : Field) (Says : List ℕ → A → Type 0) (before after : Fields) (answer : Result A LineFault) : Type 0 where
