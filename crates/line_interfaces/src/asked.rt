@@ -1,5 +1,5 @@
 // What can be asked of a line.
-ghost use Rattle.std.specs.Prelude.{not, Some as some_of};
+ghost use Rattle.std.specs.Prelude.{not, Some};
 ghost use Rattle.lines.specs.Lines.{same_pool};
 ghost use Rattle.line_interfaces.specs.Scratching.{has};
 
@@ -34,7 +34,7 @@ impl Operation for AsLatest {
 
     type Value = Option<Line>;
 
-    ghost answer = { λ _ line. some_of line };
+    ghost answer = { λ _ line. Some line };
 
     fn apply(&self, element: Line) -> Option<Line> {
         Some(element)

@@ -1,5 +1,5 @@
 // The last line seen.
-ghost use Rattle.std.specs.Prelude.{Some as some_of, None as none_of, refl};
+ghost use Rattle.std.specs.Prelude.{Some, None, refl};
 ghost use Rattle.line_interfaces.specs.Latests.{later};
 
 use interfaces::Joining;
@@ -13,13 +13,13 @@ pub struct Latest;
 impl Joining for Latest {
     type Value = Option<Line>;
 
-    ghost zero = { λ _. none_of };
+    ghost zero = { λ _. None };
 
     ghost joined = { λ _. later };
 
-    ghost assoc = { λ _ a b. elim [ none_of ↦ refl | some_of line ↦ refl ] };
+    ghost assoc = { λ _ a b. elim [ None ↦ refl | Some line ↦ refl ] };
 
-    ghost left = { λ _. elim [ none_of ↦ refl | some_of line ↦ refl ] };
+    ghost left = { λ _. elim [ None ↦ refl | Some line ↦ refl ] };
 
     ghost right = { λ _ a. refl };
 

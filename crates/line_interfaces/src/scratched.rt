@@ -1,5 +1,5 @@
 // The set of runners that do not start.
-ghost use Rattle.std.specs.Prelude.{◌≡◌, ◌-◌, true, false, if◌then◌else◌, Some as some_of, None as none_of};
+ghost use Rattle.std.specs.Prelude.{◌≡◌, ◌-◌, true, false, if◌then◌else◌};
 ghost use Rattle.line_interfaces.specs.Scratching.{in_range, has, empty, Marks};
 
 use base::Refusal;
@@ -14,7 +14,7 @@ pub struct Scratched {
 
 // The place of a runner's flag. A runner with a number outside 1 to 24 has none.
 fn place(runner: Runner) -> Option<usize>
-    ensures { result ≡ (if in_range runner then some_of (runner.0 - 1) else none_of) }
+    ensures { result ≡ (if in_range runner then Some (runner.0 - 1) else None) }
 {
     match runner.0 {
         1..=24 => Some(usize::from(runner.0) - 1),

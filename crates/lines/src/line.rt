@@ -1,5 +1,5 @@
 // One bet line, and what each of its fields is.
-ghost use Rattle.std.specs.Prelude.{◌≡◌, [], ◌∷◌, Some as some_of, MatchOption, ◌≢◌};
+ghost use Rattle.std.specs.Prelude.{◌≡◌, [], ◌∷◌, Some, MatchOption, ◌≢◌};
 ghost use Rattle.lines.specs.Lines.{letter_of, brief};
 
 use base::Cents;
@@ -57,7 +57,7 @@ impl Pool {
 }
 
 impl fmt::Display for Pool {
-    ghost output = { λ p. some_of (letter_of p ∷ []) };
+    ghost output = { λ p. Some (letter_of p ∷ []) };
 
     fn fmt<W: fmt::Write>(&self, f: &mut fmt::Formatter<W>) -> fmt::Result {
         match self {
@@ -69,7 +69,7 @@ impl fmt::Display for Pool {
 
 // The fields with commas between them, and nothing in front of a number.
 impl fmt::Display for Line {
-    ghost output = { λ l. some_of (brief l) };
+    ghost output = { λ l. Some (brief l) };
 
     fn fmt<W: fmt::Write>(&self, f: &mut fmt::Formatter<W>) -> fmt::Result {
         let Line {

@@ -1,5 +1,5 @@
 // A record cut into its fields, which are handed out one at a time from the left.
-ghost use Rattle.std.specs.Prelude.{◌≡◌, Some as some_of, MatchOption};
+ghost use Rattle.std.specs.Prelude.{◌≡◌, MatchOption};
 ghost use Rattle.records.specs.Records.{Shaped, HandsOut, fields_from};
 ghost use Rattle.records.specs.declared.fields.Field.TheVariants as field;
 ghost use Rattle.std.specs.Iterator.{at_most};
@@ -34,7 +34,7 @@ pub struct Fields<'a> {
 impl<'a> Fields<'a> {
     // The fields of a record that has 22 bytes, with its commas.
     pub fn of(row: &'a [u8]) -> Option<Fields<'a>>
-        ensures { MatchOption result (Shaped row.now → ⊥) (λ f. Shaped row.now × (f.row.now ≡ row.now) × (f.next ≡ some_of field.Terminal)) }
+        ensures { MatchOption result (Shaped row.now → ⊥) (λ f. Shaped row.now × (f.row.now ≡ row.now) × (f.next ≡ Some field.Terminal)) }
     {
         let Ok(row) = <&[u8; 22]>::try_from(row) else {
             return None;

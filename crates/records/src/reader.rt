@@ -1,6 +1,5 @@
 // Reads one record.
-ghost use Rattle.std.specs.Prelude.{◌≡◌, ℕ, ◌≤◌, [], ◌∷◌, length, Some as some_of, Ok as ok_of, Err as err_of, MatchResult, ◌≢◌};
-ghost use Rattle.std.specs.Option as options;
+ghost use Rattle.std.specs.Prelude.{◌≡◌, ℕ, ◌≤◌, [], ◌∷◌, length, MatchOption, MatchResult, ◌≢◌};
 ghost use Rattle.records.specs.declared.fields.Field.TheVariants as field;
 ghost use Rattle.lines.specs.Lines.{letter_of};
 ghost use Rattle.records.specs.Records.{TerminalSays, RaceSays, PoolSays, RunnerSays, AmountSays, FieldRead, Reads, FirstFault};
@@ -15,7 +14,7 @@ use lines::{Line, LineFault, Pool, Race, Runner, Terminal};
 // The number from 1 to `most` that digits say.
 fn number_to(most: u16, bytes: &[u8]) -> Option<u16>
     requires { length bytes.now ≤ 4 }
-    ensures { options.MatchOption result ((n : ℕ) → Numeral 1 most bytes.now n → ⊥) (λ n. Numeral 1 most bytes.now n) }
+    ensures { MatchOption result ((n : ℕ) → Numeral 1 most bytes.now n → ⊥) (λ n. Numeral 1 most bytes.now n) }
 {
     let n = numeral(bytes)?;
     if n < 1 || n > u32::from(most) {
@@ -26,7 +25,7 @@ fn number_to(most: u16, bytes: &[u8]) -> Option<u16>
 
 // The pool whose letter the bytes are.
 fn pool_of(bytes: &[u8]) -> Option<Pool>
-    ensures { options.MatchOption result ((p : Pool) → bytes.now ≢ letter_of p ∷ []) (λ p. bytes.now ≡ letter_of p ∷ []) }
+    ensures { MatchOption result ((p : Pool) → bytes.now ≢ letter_of p ∷ []) (λ p. bytes.now ≡ letter_of p ∷ []) }
 {
     let [letter] = bytes else {
         return None;
@@ -37,7 +36,7 @@ fn pool_of(bytes: &[u8]) -> Option<Pool>
 // Each of these reads the next field, which is the one that it is named for.
 
 fn terminal(fields: &mut Fields<'_>) -> Result<Terminal, LineFault>
-    requires { fields.old.next ≡ some_of field.Terminal }
+    requires { fields.old.next ≡ Some field.Terminal }
     ensures { FieldRead field.Terminal (λ row t. TerminalSays row t.0) fields.old fields.new result }
 {
     let Some(Token::Terminal { place, bytes }) = fields.next() else {
@@ -50,7 +49,7 @@ fn terminal(fields: &mut Fields<'_>) -> Result<Terminal, LineFault>
 }
 
 fn race(fields: &mut Fields<'_>) -> Result<Race, LineFault>
-    requires { fields.old.next ≡ some_of field.Race }
+    requires { fields.old.next ≡ Some field.Race }
     ensures { FieldRead field.Race (λ row t. RaceSays row t.0) fields.old fields.new result }
 {
     let Some(Token::Race { place, bytes }) = fields.next() else {
@@ -63,7 +62,7 @@ fn race(fields: &mut Fields<'_>) -> Result<Race, LineFault>
 }
 
 fn pool(fields: &mut Fields<'_>) -> Result<Pool, LineFault>
-    requires { fields.old.next ≡ some_of field.Pool }
+    requires { fields.old.next ≡ Some field.Pool }
     ensures { FieldRead field.Pool PoolSays fields.old fields.new result }
 {
     let Some(Token::Pool { place, bytes }) = fields.next() else {
@@ -76,7 +75,7 @@ fn pool(fields: &mut Fields<'_>) -> Result<Pool, LineFault>
 }
 
 fn runner(fields: &mut Fields<'_>) -> Result<Runner, LineFault>
-    requires { fields.old.next ≡ some_of field.Runner }
+    requires { fields.old.next ≡ Some field.Runner }
     ensures { FieldRead field.Runner (λ row t. RunnerSays row t.0) fields.old fields.new result }
 {
     let Some(Token::Runner { place, bytes }) = fields.next() else {
@@ -89,7 +88,7 @@ fn runner(fields: &mut Fields<'_>) -> Result<Runner, LineFault>
 }
 
 fn amount(fields: &mut Fields<'_>) -> Result<Cents, LineFault>
-    requires { fields.old.next ≡ some_of field.Amount }
+    requires { fields.old.next ≡ Some field.Amount }
     ensures { FieldRead field.Amount (λ row c. AmountSays row c.cents) fields.old fields.new result }
 {
     let Some(Token::Amount { place, bytes }) = fields.next() else {
@@ -104,8 +103,8 @@ fn amount(fields: &mut Fields<'_>) -> Result<Cents, LineFault>
 // The line that a record says, or the first fault from the left.
 pub fn read_line(row: &[u8]) -> Result<Line, LineFault>
     ensures says { MatchResult result (λ l. Reads row.now l) (λ f. FirstFault row.now f) }
-    ensures only { (l : Line) → Reads row.now l → result ≡ ok_of l }
-    ensures first { (f : LineFault) → FirstFault row.now f → result ≡ err_of f }
+    ensures only { (l : Line) → Reads row.now l → result ≡ Ok l }
+    ensures first { (f : LineFault) → FirstFault row.now f → result ≡ Err f }
 {
     let Some(mut fields) = Fields::of(row) else {
         return Err(LineFault::Shape);

@@ -1,7 +1,7 @@
 // The report on an input of bet lines: for each pool, how many lines it has and their total.
 #![tactic(auto)]
 
-ghost use Rattle.std.specs.Prelude.{length, IfOk, Some as some_of, string_bytes};
+ghost use Rattle.std.specs.Prelude.{length, IfOk, Some, string_bytes};
 ghost use Rattle.intake.specs.Inputs.{CutInto, records};
 ghost use Rattle.reports.specs.Summaries.{Tallied, BothTallied, Summarizes};
 ghost use Rattle.reports.specs.Reports.{row, text_of, Reports};
@@ -24,7 +24,7 @@ pub struct PoolTally {
 }
 
 impl fmt::Display for PoolTally {
-    ghost output = { λ t. some_of (row t.pool t.lines t.total.cents) };
+    ghost output = { λ t. Some (row t.pool t.lines t.total.cents) };
 
     fn fmt<W: fmt::Write>(&self, f: &mut fmt::Formatter<W>) -> fmt::Result {
         let PoolTally { pool, lines, total } = *self;
@@ -43,7 +43,7 @@ pub enum Summary {
 
 // The report: a header and a row for each pool, or one line that stands for a refused input.
 impl fmt::Display for Summary {
-    ghost output = { λ s. some_of (text_of s) };
+    ghost output = { λ s. Some (text_of s) };
 
     fn fmt<W: fmt::Write>(&self, f: &mut fmt::Formatter<W>) -> fmt::Result {
         match *self {
