@@ -5,6 +5,10 @@ Rattle's style has words in snake case, types and modules in camel case. The nam
 (goals and steps, such as `loop-i-preserved`) keep their dashes, as do the names of std.
 
     python3 tools/respell.py        at the top of the repository; it changes .antt and .rt files below crates/
+
+It ran once, right behind the toolchain's own script for moving to a newer Rattle, and is kept to show what that move
+renamed. It goes by text alone: where a name of ours and one of std's are alike but for the dash, as `fold-append`, a
+later run would change both.
 """
 import pathlib
 import re
@@ -54,7 +58,7 @@ whole-size whole-some widest-top with-header with-last with-leaf with-race with-
 worked-amounts written-reads zeros-digits zeros-number
 """.split())
 
-# where the snake case of a name alone would be read as a variant of another kind
+# names that an import gives to something else: variants, and a definition that the toolchain's script had respelled
 OTHERS = {
     "number_of_lem": "number_of",
     "Refused-by": "refused_by",
@@ -62,6 +66,7 @@ OTHERS = {
     "None-of": "none_of",
     "Ok-of": "ok_of",
     "Err-of": "err_of",
+    "elements-of": "elements_of",
 }
 
 # what separates the words of a clause or a definition
@@ -73,6 +78,17 @@ def new_name(match):
     if word in OTHERS:
         return OTHERS[word]
     return word.replace("-", "_") if word in NAMES else word
+
+
+def respelled(text):
+    """The text with new names; in an import from std only what stands behind `as` is ours."""
+    lines = []
+    for line in text.split("\n"):
+        if line.startswith("use Rattle.std."):
+            lines.append(re.sub(r"(?<= as )[^\s,}]+", new_name, line))
+        else:
+            lines.append(WORD.sub(new_name, line))
+    return "\n".join(lines)
 
 
 def main():
@@ -88,7 +104,7 @@ def main():
     changed = 0
     for path in files:
         old = path.read_text(encoding="utf-8")
-        new = WORD.sub(new_name, old)
+        new = respelled(old)
         if new != old:
             path.write_text(new, encoding="utf-8")
             changed += 1

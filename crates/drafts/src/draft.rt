@@ -2,7 +2,7 @@ pub mod methods;
 
 ghost use Rattle.std.specs.Prelude.{◌≡◌, ◌≤◌, vec_capacity};
 ghost use Rattle.shapes.specs.Nodes.{Sound, shapes};
-ghost use Rattle.shapes.specs.Drafts.{Drafted, parent_flags, elements as elements-of};
+ghost use Rattle.shapes.specs.Drafts.{Drafted, parent_flags, elements as elements_of};
 
 use shapes::Node;
 
@@ -22,5 +22,5 @@ pub struct Draft {
     // the nodes were made from nothing, one after the other, by the rules
     ghost drafted: { ∥ Drafted (shapes nodes.items) ∥₁ },
     ghost flagged: { parented.items ≡ parent_flags (shapes nodes.items) },
-    ghost counted: { elements ≡ elements-of (shapes nodes.items) },
+    ghost counted: { elements ≡ elements_of (shapes nodes.items) },
 }

@@ -1,4 +1,5 @@
 -- Why amounts may be added up in any grouping. Assumes nothing.
+-- These are proofs, which a reader need not read: they stand here since what an impl gives for a law may cite no file of proofs/.
 use Rattle.std.specs.Prelude.{◌≡◌, ℤ, ◌+ℤ◌}
 use Rattle.std.proofs.Common.{sym, ap, ◌∙◌}
 use Rattle.std.proofs.Math.IntN.{+ℤ_idl, +ℤ_idr, +ℤ_assoc}

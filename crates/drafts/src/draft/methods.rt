@@ -4,7 +4,7 @@ ghost use Rattle.base.specs.Refusals.{Refuses, Passes};
 ghost use Rattle.shapes.specs.Nodes.{shapes, last_shape, size_of, depth_of};
 ghost use Rattle.shapes.specs.Shapes.{size, depth};
 ghost use Rattle.shapes.specs.Trees.{Grown};
-ghost use Rattle.shapes.specs.Drafts.{Kept, Parentless, parentless, next_leaf, next_concat, elements as elements-of};
+ghost use Rattle.shapes.specs.Drafts.{Kept, Parentless, parentless, next_leaf, next_concat, elements as elements_of};
 ghost use Rattle.drafts.specs.Views.{draft_nodes, draft_shapes};
 ghost use Rattle.trees.specs.Views.{tree_nodes, tree_shape};
 ghost use Rattle.drafts.specs.Examples.{Chains};
@@ -36,14 +36,14 @@ fn adopt(parented: &mut Vec<bool>, node: usize)
 // Adds a leaf behind the nodes, for elements from `start` on.
 fn append_leaf(nodes: &mut Vec<Node>, parented: &mut Vec<bool>, start: usize, size: usize)
     requires kept { Kept nodes.old.items parented.old.items }
-    requires counted { start ≡ elements-of (shapes nodes.old.items) }
+    requires counted { start ≡ elements_of (shapes nodes.old.items) }
     requires narrow { size ≤ 64 }
     requires small { start + size ≤ 32768 }
     requires few { length nodes.old.items < 1023 }
     requires room { 1023 ≤ vec_capacity nodes.old }
     requires flags_room { 1023 ≤ vec_capacity parented.old }
     ensures kept { Kept nodes.new.items parented.new.items }
-    ensures counted { start + size ≡ elements-of (shapes nodes.new.items) }
+    ensures counted { start + size ≡ elements_of (shapes nodes.new.items) }
     ensures shapes { shapes nodes.new.items ≡ shapes nodes.old.items ++ (next_leaf (shapes nodes.old.items) size ∷ []) }
     ensures capacity { vec_capacity nodes.new ≡ vec_capacity nodes.old }
     ensures flags_capacity { vec_capacity parented.new ≡ vec_capacity parented.old }
@@ -60,7 +60,7 @@ fn append_concat(nodes: &mut Vec<Node>, parented: &mut Vec<bool>, left: usize, r
     requires room { 1023 ≤ vec_capacity nodes.old }
     requires flags_room { 1023 ≤ vec_capacity parented.old }
     ensures kept { Kept nodes.new.items parented.new.items }
-    ensures counted { elements-of (shapes nodes.new.items) ≡ elements-of (shapes nodes.old.items) }
+    ensures counted { elements_of (shapes nodes.new.items) ≡ elements_of (shapes nodes.old.items) }
     ensures shapes { shapes nodes.new.items ≡ shapes nodes.old.items ++ (next_concat (shapes nodes.old.items) left right ∷ []) }
     ensures capacity { vec_capacity nodes.new ≡ vec_capacity nodes.old }
     ensures flags_capacity { vec_capacity parented.new ≡ vec_capacity parented.old }
@@ -123,7 +123,7 @@ impl Draft {
 
     // How many elements the leaves have.
     pub fn elements(&self) -> usize
-        ensures { result ≡ elements-of (draft_shapes self.now) }
+        ensures { result ≡ elements_of (draft_shapes self.now) }
     {
         let Draft { elements, .. } = self;
         *elements
@@ -131,7 +131,7 @@ impl Draft {
 
     // How many elements more there is space for.
     fn space(&self) -> usize
-        ensures { result + elements-of (draft_shapes self.now) ≡ 32768 }
+        ensures { result + elements_of (draft_shapes self.now) ≡ 32768 }
     {
         MOST_ELEMENTS - self.elements
     }
