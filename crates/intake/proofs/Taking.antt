@@ -1,6 +1,6 @@
 -- The records of an input, read one after another. Assumes nothing.
 use Rattle.std.proofs.Common.{◌≡◌, ℕ, suc, ◌+◌, ◌<◌, ◌≤◌, List, [], ◌∷◌, ◌++◌, length, get_or, drop, set, sym, refl, ap, ◌∙◌, subst, append_assoc, append-nil, arith, length-append}
-use Rattle.std.proofs.lemmas.List.{length_push, drop_more, set_at, nil_from_length}
+use Rattle.std.proofs.lemmas.List.{length_push, drop_more, set_at}
 use Rattle.lines.specs.declared.faults.LineFault.{LineFault}
 use Rattle.lines.specs.declared.line.Line.{Line}
 use Rattle.records.specs.Records.{Reads, FirstFault}
@@ -67,10 +67,10 @@ module _ {rs left : List (List ℕ)} {count : ℕ} (s : Sofar rs left count) whe
     counted = omega (arith, before_long);
   }
 
-  -- where all records are lines, there is a next one, and it has no fault
-  pub sofar_next : {n : ℕ} → AllRead rs n → count < n → left ≡ [] → ⊥
-  sofar_next all few done =
-      omega (arith, all.counted, each_length rs all.lines all.read, ap length (s.split ∙ ap (λ r. s.before ++ r) done ∙ append-nil s.before), before_long)
+  -- where all records are lines, the next one is among them, and has no fault
+  pub sofar_few : {n : ℕ} → AllRead rs n → (row : List ℕ) (after : List (List ℕ)) → left ≡ row ∷ after → count < n
+  sofar_few all row after next =
+      omega (arith, all.counted, each_length rs all.lines all.read, ap length (s.split ∙ ap (λ r. s.before ++ r) next), length-append s.before (row ∷ after), before_long)
 
   pub sofar_fine : {n : ℕ} → AllRead rs n → (row : List ℕ) (after : List (List ℕ)) (f : LineFault) → left ≡ row ∷ after → FirstFault row f → ⊥
   sofar_fine all row after f next bad =
@@ -97,10 +97,9 @@ put_more {count = count} {was = was} {after = after} p row rest l next reads roo
           ∙ sym (append_assoc s.lines (l ∷ []) (drop (count + 1) was));
     }
 
-pub put_all : {rs left : List (List ℕ)} {count : ℕ} {was after : List Line} → Put rs left count was after → AllRead rs count → count ≤ length was → Taken rs count was after
+pub put_all : {rs left : List (List ℕ)} {count n : ℕ} {was after : List Line} → Put rs left count was after → left ≡ [] → AllRead rs n → n ≤ length was → Taken rs n was after
 unfolding sofar_all
-put_all {rs} {left} p all room =
+put_all {rs} {count = count} {n = n} {was = was} {after = after} p none all room =
     let s = p.sofar in
-    let none : length left ≡ 0 =
-    omega (arith, all.counted, each_length rs all.lines all.read, ap length s.split ∙ length-append s.before left, each_length s.before s.lines s.read, s.counted) in
-    record { all = sofar_all s (nil_from_length left none); room = room; strip = p.strip }
+    let done : n ≡ count = omega (arith, all.counted, each_length rs all.lines all.read, ap length (s.split ∙ ap (λ r. s.before ++ r) none ∙ append-nil s.before), each_length s.before s.lines s.read, s.counted) in
+    subst (λ m. Taken rs m was after) (sym done) (record { all = sofar_all s none; room = omega (arith, done, room); strip = p.strip })

@@ -15,22 +15,24 @@ pub enum IntakeFault {
 }
 
 impl IntakeFault {
-    pub fn refusal(self) -> Refusal
-        ensures { result ≡ intake_refusal self }
-    {
-        match self {
-            IntakeFault::Line { record: _, fault } => fault.refusal(),
-            IntakeFault::Space { record: _ } => Refusal::Space,
-        }
-    }
-
     // The number of the record that was turned away, counted from 1.
     pub fn record(self) -> usize
         ensures { result ≡ record_number self }
     {
         match self {
-            IntakeFault::Line { record, fault: _ } => record,
-            IntakeFault::Space { record } => record,
+            IntakeFault::Line { record, .. } | IntakeFault::Space { record } => record,
+        }
+    }
+}
+
+// The row of the table of refusals that a fault stands for.
+impl From<IntakeFault> for Refusal {
+    ghost from_gives = { λ fault refusal. refusal ≡ intake_refusal fault };
+
+    fn from(fault: IntakeFault) -> Refusal {
+        match fault {
+            IntakeFault::Line { fault, .. } => Refusal::from(fault),
+            IntakeFault::Space { .. } => Refusal::Space,
         }
     }
 }

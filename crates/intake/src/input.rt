@@ -13,12 +13,9 @@ pub struct Records<'a> {
 fn first_end(bytes: &[u8]) -> Option<usize>
     ensures { MatchOption result (NoEnd bytes.now) (λ i. EndsAt bytes.now i × ((j : ℕ) → j < i → EndsAt bytes.now j → ⊥)) }
 {
-    for i in 1..bytes.len() {
-        if bytes[i - 1] == b'\r' && bytes[i] == b'\n' {
-            return Some(i - 1);
-        }
-    }
-    None
+    bytes
+        .windows(2)
+        .position(|pair| matches!(pair, [b'\r', b'\n']))
 }
 
 impl<'a> Records<'a> {

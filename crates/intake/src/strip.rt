@@ -1,5 +1,5 @@
 // Takes an input into a strip, whole or not at all. A strip is lines in the caller's memory, of any number, that are written over.
-ghost use Rattle.std.specs.Prelude.{◌≡◌, ◌^◌, ◌<◌, ◌≤◌, length, MatchResult};
+ghost use Rattle.std.specs.Prelude.{◌≡◌, ℕ, ◌^◌, ◌<◌, ◌≤◌, length, MatchResult};
 ghost use Rattle.intake.specs.Inputs.{CutInto, records};
 ghost use Rattle.intake.specs.Intake.{AllRead, Taken, Refused};
 
@@ -11,53 +11,45 @@ use records::read_line;
 // How many lines an input has, where each record is a line and there is room for it.
 fn check(input: &[u8], room: usize) -> Result<usize, IntakeFault>
     requires { room < 2 ^ 63 }
-    ensures cut { CutInto input.now (records input.now) }
-    ensures all { MatchResult result (λ n. AllRead (records input.now) n × (n ≤ room)) (λ f. Refused room (records input.now) f) }
+    ensures { MatchResult result (λ n. AllRead (records input.now) n × (n ≤ room))
+        (λ f. Refused room (records input.now) f) }
 {
+    // counted here, since `enumerate` would number the records and not tell at the end how many there were
     let mut count = 0;
     for row in Records::of(input) {
+        let record = count + 1;
         if let Err(fault) = read_line(row) {
-            return Err(IntakeFault::Line {
-                record: count + 1,
-                fault,
-            });
+            return Err(IntakeFault::Line { record, fault });
         }
         if count == room {
-            return Err(IntakeFault::Space { record: count + 1 });
+            return Err(IntakeFault::Space { record });
         }
-        count += 1;
+        count = record;
     }
     Ok(count)
 }
 
 // Puts the lines of a checked input at the front of the strip.
-fn put(input: &[u8], strip: &mut [Line], count: usize)
-    requires all { AllRead (records input.now) count }
-    requires room { count ≤ length strip.old }
-    ensures { Taken (records input.now) count strip.old strip.new }
+fn put(input: &[u8], strip: &mut [Line])
+    requires { (n : ℕ) × AllRead (records input.now) n × (n ≤ length strip.old) }
+    ensures { (n : ℕ) → AllRead (records input.now) n → n ≤ length strip.old
+        → Taken (records input.now) n strip.old strip.new }
 {
-    let mut rows = Records::of(input);
-    for i in 0..count {
-        let Some(row) = rows.next() else {
-            unreachable()
-        };
+    for (place, row) in Records::of(input).enumerate() {
         let Ok(line) = read_line(row) else {
             unreachable()
         };
-        strip[i] = line;
+        strip[place] = line;
     }
 }
 
 // Puts the lines of an input at the front of a strip and answers how many there are, or refuses and leaves the strip as it was.
 pub fn take_in(input: &[u8], strip: &mut [Line]) -> Result<usize, IntakeFault>
     ensures cut { CutInto input.now (records input.now) }
-    ensures taken { MatchResult result (λ n. Taken (records input.now) n strip.old strip.new) (λ f. Refused (length strip.old) (records input.now) f × (strip.new ≡ strip.old)) }
+    ensures taken { MatchResult result (λ n. Taken (records input.now) n strip.old strip.new)
+        (λ f. Refused (length strip.old) (records input.now) f × (strip.new ≡ strip.old)) }
 {
-    match check(input, strip.len()) {
-        Ok(count) => {
-            put(input, strip, count);
-            Ok(count)
-        }
-        Err(fault) => Err(fault),
-    }
+    let count = check(input, strip.len())?;
+    put(input, strip);
+    Ok(count)
 }

@@ -10,9 +10,8 @@ pub fn fold<J: Joining>(joining: &J, values: &[J::Value]) -> J::Value
     ensures value { result ≡ fold_of (J.zero joining.now) (J.joined joining.now) values.now }
     ensures concatenation { Concatenates (J.zero joining.now) (J.joined joining.now) }
 {
-    let mut result = joining.neutral();
-    for value in values {
-        result = joining.join(result, *value);
-    }
-    result
+    values.iter().fold(
+        joining.neutral(),
+        |total, value| joining.join(total, *value),
+    )
 }

@@ -3,7 +3,7 @@
 #![tactic(auto)]
 
 use anyhow::{Context, anyhow};
-use base::Cents;
+use base::{Cents, Refusal};
 use intake::Records;
 use lines::{Line, LineFault, Pool, Race, Runner, Terminal};
 use records::{read_amount, read_line, write_line};
@@ -34,7 +34,7 @@ fn read(heap: Global, row: &[u8]) -> anyhow::Result<String> {
 
 // The number of a fault, and the place that it carries.
 fn refused(heap: Global, fault: LineFault) -> Result<String, AllocError> {
-    let number = fault.refusal().number();
+    let number = Refusal::from(fault).number();
     match fault {
         LineFault::Shape => format!(in heap; "refused,{number}"),
         LineFault::Field { place } => format!(in heap; "refused,{number},{place}"),
@@ -50,7 +50,7 @@ fn amount(heap: Global, bytes: &[u8]) -> Result<String, AllocError> {
             format!(in heap; "{cents}")
         }
         Err(fault) => {
-            let number = fault.refusal().number();
+            let number = Refusal::from(fault).number();
             format!(in heap; "refused,{number}")
         }
     }
@@ -67,7 +67,7 @@ fn line_of(words: &str) -> anyhow::Result<Line> {
         .chars()
         .next()
         .context("no letter")?;
-    let pool = Pool::from_letter(letter).context("another letter")?;
+    let pool = Pool::try_from(letter)?;
     let runner = words.next().context("no runner")?.parse::<u8>()?;
     let cents = words.next().context("no cents")?.parse::<i64>()?;
     Ok(Line {

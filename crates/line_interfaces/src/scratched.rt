@@ -17,7 +17,7 @@ fn place(runner: Runner) -> Option<usize>
     ensures { result ≡ (if in_range runner then Some (runner.0 - 1) else None) }
 {
     match runner.0 {
-        1..=24 => Some(usize::from(runner.0) - 1),
+        1..=Runner::MOST => Some(usize::from(runner.0) - 1),
         _ => None,
     }
 }
@@ -34,10 +34,7 @@ impl Scratched {
     pub fn contains(&self, runner: Runner) -> bool
         ensures { result ≡ has self.now runner }
     {
-        match place(runner) {
-            Some(place) => self.flags[place],
-            None => false,
-        }
+        place(runner).is_some_and(|place| self.flags[place])
     }
 
     // Puts a runner in, also where it is in the set already.

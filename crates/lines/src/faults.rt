@@ -22,24 +22,25 @@ pub enum LineFault {
     Amount { place: usize, fault: AmountFault },
 }
 
-impl AmountFault {
-    pub fn refusal(self) -> Refusal
-        ensures { result ≡ amount_refusal self }
-    {
-        match self {
+// The row of the table of refusals that a fault stands for.
+impl From<AmountFault> for Refusal {
+    ghost from_gives = { λ fault refusal. refusal ≡ amount_refusal fault };
+
+    fn from(fault: AmountFault) -> Refusal {
+        match fault {
             AmountFault::Form => Refusal::Field,
         }
     }
 }
 
-impl LineFault {
-    pub fn refusal(self) -> Refusal
-        ensures { result ≡ line_refusal self }
-    {
-        match self {
+impl From<LineFault> for Refusal {
+    ghost from_gives = { λ fault refusal. refusal ≡ line_refusal fault };
+
+    fn from(fault: LineFault) -> Refusal {
+        match fault {
             LineFault::Shape => Refusal::Shape,
-            LineFault::Field { place: _ } => Refusal::Field,
-            LineFault::Amount { place: _, fault } => fault.refusal(),
+            LineFault::Field { .. } => Refusal::Field,
+            LineFault::Amount { fault, .. } => Refusal::from(fault),
         }
     }
 }

@@ -5,4 +5,4 @@ mod faults;
 mod line;
 
 pub use faults::{AmountFault, LineFault};
-pub use line::{Line, Pool, Race, Runner, Terminal};
+pub use line::{Line, Pool, Race, Runner, Terminal, UnknownLetter};

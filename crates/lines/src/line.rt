@@ -1,8 +1,10 @@
 // One bet line, and what each of its fields is.
-ghost use Rattle.std.specs.Prelude.{◌≡◌, [], ◌∷◌, Some, MatchOption, ◌≢◌};
+ghost use Rattle.std.specs.Prelude.{◌≡◌, [], ◌∷◌, ◌++◌, Some, codes, encode_utf8};
 ghost use Rattle.lines.specs.Lines.{letter_of, brief};
+ghost use Rattle.lines.specs.Letters.{StandsFor};
 
 use base::Cents;
+use std::error::Error;
 use std::fmt;
 
 // The number of a betting terminal; 1 to 999 can be sent.
@@ -16,6 +18,21 @@ pub struct Race(pub u8);
 // The number of a runner of the race; 1 to 24 can be sent.
 #[derive(Clone, Copy, PartialEq, Eq, Debug)]
 pub struct Runner(pub u8);
+
+impl Terminal {
+    // The largest number that can be sent.
+    pub const MOST: u16 = 999;
+}
+
+impl Race {
+    // The largest number that can be sent.
+    pub const MOST: u8 = 20;
+}
+
+impl Runner {
+    // The largest number that can be sent.
+    pub const MOST: u8 = 24;
+}
 
 // The pool that money is put into: the runner wins, or comes in among the first.
 #[derive(Clone, Copy, PartialEq, Eq, Debug)]
@@ -34,22 +51,30 @@ pub struct Line {
     pub amount: Cents,
 }
 
-impl Pool {
-    // The pool that a letter stands for.
-    pub fn from_letter(letter: char) -> Option<Pool>
-        ensures { MatchOption result ((p : Pool) → letter ≢ letter_of p) (λ p. letter ≡ letter_of p) }
-    {
+// A letter that no pool has.
+#[derive(Clone, Copy, PartialEq, Eq, Debug)]
+pub struct UnknownLetter(pub char);
+
+// The pool that a letter stands for.
+impl TryFrom<char> for Pool {
+    type Error = UnknownLetter;
+
+    ghost try_from_gives = { StandsFor };
+
+    fn try_from(letter: char) -> Result<Pool, UnknownLetter> {
         match letter {
-            'W' => Some(Pool::Win),
-            'P' => Some(Pool::Place),
-            _ => None,
+            'W' => Ok(Pool::Win),
+            'P' => Ok(Pool::Place),
+            _ => Err(UnknownLetter(letter)),
         }
     }
+}
 
-    pub fn letter(self) -> char
-        ensures { result ≡ letter_of self }
-    {
-        match self {
+impl From<Pool> for char {
+    ghost from_gives = { λ pool letter. letter ≡ letter_of pool };
+
+    fn from(pool: Pool) -> char {
+        match pool {
             Pool::Win => 'W',
             Pool::Place => 'P',
         }
@@ -60,12 +85,20 @@ impl fmt::Display for Pool {
     ghost output = { λ p. Some (letter_of p ∷ []) };
 
     fn fmt<W: fmt::Write>(&self, f: &mut fmt::Formatter<W>) -> fmt::Result {
-        match self {
-            Pool::Win => f.write_str("W"),
-            Pool::Place => f.write_str("P"),
-        }
+        f.write_char(char::from(*self))
     }
 }
+
+impl fmt::Display for UnknownLetter {
+    ghost output = { λ e. Some (codes "no pool has the letter " ++ encode_utf8 e.0) };
+
+    fn fmt<W: fmt::Write>(&self, f: &mut fmt::Formatter<W>) -> fmt::Result {
+        let UnknownLetter(letter) = *self;
+        write!(f, "no pool has the letter {letter}")
+    }
+}
+
+impl Error for UnknownLetter {}
 
 // The fields with commas between them, and nothing in front of a number.
 impl fmt::Display for Line {

@@ -30,7 +30,7 @@ fn pool_of(bytes: &[u8]) -> Option<Pool>
     let [letter] = bytes else {
         return None;
     };
-    Pool::from_letter(*letter as char)
+    Pool::try_from(*letter as char).ok()
 }
 
 // Each of these reads the next field, which is the one that it is named for.

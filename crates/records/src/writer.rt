@@ -71,7 +71,7 @@ pub fn write_line(line: &Line) -> Result<[u8; 22], Refusal>
     let mut out = *b"000,00, ,00,          ";
     put_right(&mut out[0..3], u32::from(line.terminal.0));
     put_right(&mut out[4..6], u32::from(line.race.0));
-    out[7] = line.pool.letter() as u8;
+    out[7] = char::from(line.pool) as u8;
     put_right(&mut out[9..11], u32::from(line.runner.0));
     out[12..22].copy_from_slice(&amount_bytes(line.amount));
     Ok(out)

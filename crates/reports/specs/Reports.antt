@@ -1,5 +1,5 @@
 -- The report on an input, byte for byte. Assumes nothing.
-use Rattle.std.specs.Prelude.{ℕ, ◌≤◌, List, [], ◌∷◌, ◌++◌, length, ℤ, codes, decimal}
+use Rattle.std.specs.Prelude.{ℕ, ◌≤◌, List, [], ◌∷◌, ◌++◌, length, ℤ, codes, decimal, Ok, Err, Result}
 use Rattle.base.specs.Money.{dollars}
 use Rattle.base.specs.Refusals.{number}
 use Rattle.intake.specs.declared.faults.IntakeFault.{IntakeFault}
@@ -11,7 +11,7 @@ use Rattle.intake.specs.Inputs.{records}
 use Rattle.intake.specs.Intake.{EachReads, Refused}
 use Rattle.lines.specs.Lines.{letter_of}
 use Rattle.reports.specs.declared.Summary.{Summary}
-use Rattle.reports.specs.declared.Summary.TheVariants.{Taken, Refused as refused_by}
+use Rattle.reports.specs.declared.Takings.{Takings}
 use Rattle.reports.specs.Pools.{lines_of, total}
 
 -- CR LF
@@ -36,10 +36,18 @@ table ls = with_header (pool_row Win ls) (pool_row Place ls)
 abbrev pub refusal_row : IntakeFault → List ℕ
 refusal_row f = codes "refused," ++ (decimal (record_number f) ++ (44 ∷ (decimal (number (intake_refusal f)) ++ line_end)))
 
+-- the text of what the pools have taken
+abbrev pub takings_text : Takings → List ℕ
+takings_text t = with_header (row t.win.pool t.win.lines t.win.total.cents) (row t.place.pool t.place.lines t.place.total.cents)
+
+-- that, or the row that stands for a refused input
+abbrev pub outcome_text : Result Takings IntakeFault → List ℕ
+outcome_text (Ok t) = takings_text t
+outcome_text (Err f) = refusal_row f
+
 -- the text of a summary
 abbrev pub text_of : Summary → List ℕ
-text_of (Taken win place) = with_header (row win.pool win.lines win.total.cents) (row place.pool place.lines place.total.cents)
-text_of (refused_by f) = refusal_row f
+text_of s = outcome_text s.0
 
 -- The text reports on an input of which at most `room` records are taken:
 -- it is the table of the input's lines, or the refusal of its first bad record and nothing else.

@@ -3,10 +3,10 @@
 
 ghost use Rattle.std.specs.Prelude.{length, IfOk, Some, string_bytes};
 ghost use Rattle.intake.specs.Inputs.{CutInto, records};
-ghost use Rattle.reports.specs.Summaries.{Tallied, BothTallied, Summarizes};
+ghost use Rattle.reports.specs.Summaries.{Tallied, BothTallied, Outcome, Summarizes};
 ghost use Rattle.reports.specs.Reports.{row, text_of, Reports};
 
-use base::Cents;
+use base::{Cents, Refusal};
 use intake::{IntakeFault, take_in};
 use lines::{Line, Pool, Race, Runner, Terminal};
 use std::alloc::{AllocError, Global};
@@ -32,25 +32,27 @@ impl fmt::Display for PoolTally {
     }
 }
 
-// What is to be reported on an input.
+// What the pools have taken.
 #[derive(Clone, Copy, PartialEq, Eq, Debug)]
-pub enum Summary {
-    // every record is a line: what each pool has taken
-    Taken { win: PoolTally, place: PoolTally },
-    // the input is refused
-    Refused(IntakeFault),
+pub struct Takings {
+    pub win: PoolTally,
+    pub place: PoolTally,
 }
+
+// What is to be reported on an input: what the pools have taken, or why the input is refused.
+#[derive(Clone, Copy, PartialEq, Eq, Debug)]
+pub struct Summary(pub Result<Takings, IntakeFault>);
 
 // The report: a header and a row for each pool, or one line that stands for a refused input.
 impl fmt::Display for Summary {
     ghost output = { λ s. Some (text_of s) };
 
     fn fmt<W: fmt::Write>(&self, f: &mut fmt::Formatter<W>) -> fmt::Result {
-        match *self {
-            Summary::Taken { win, place } => write!(f, "pool,lines,total\r\n{win}\r\n{place}\r\n"),
-            Summary::Refused(fault) => {
+        match self.0 {
+            Ok(Takings { win, place }) => write!(f, "pool,lines,total\r\n{win}\r\n{place}\r\n"),
+            Err(fault) => {
                 let record = fault.record();
-                let number = fault.refusal().number();
+                let number = Refusal::from(fault).number();
                 write!(f, "refused,{record},{number}\r\n")
             }
         }
@@ -61,41 +63,33 @@ impl fmt::Display for Summary {
 fn tally(pool: Pool, lines: &[Line]) -> PoolTally
     ensures { Tallied pool lines.now result }
 {
-    let mut count = 0;
-    let mut total = Cents::new(0);
-    for line in lines {
-        if line.pool == pool {
-            count += 1;
-            total = total.wrapping_add(line.amount);
-        }
-    }
+    let total = lines.iter().filter(|line| line.pool == pool).fold(
+        Cents::new(0),
+        |total, line| total.wrapping_add(line.amount),
+    );
     PoolTally {
         pool,
-        lines: count,
+        lines: lines.iter().filter(|line| line.pool == pool).count(),
         total,
     }
 }
 
 // What the lines of an input come to.
-fn taken(lines: &[Line]) -> Summary
+fn taken(lines: &[Line]) -> Takings
     ensures { BothTallied lines.now result }
 {
-    Summary::Taken {
+    Takings {
         win: tally(Pool::Win, lines),
         place: tally(Pool::Place, lines),
     }
 }
 
-// What is to be reported on an input whose lines are taken into a strip.
-fn summarize_into(strip: &mut [Line], input: &[u8]) -> Summary
-    ensures cut { CutInto input.now (records input.now) }
-    ensures value { Summarizes (length strip.old) input.now result }
-    ensures text { Reports (length strip.old) input.now (text_of result) }
+// What the pools have taken by an input whose lines are taken into a strip.
+fn takings_of(strip: &mut [Line], input: &[u8]) -> Result<Takings, IntakeFault>
+    ensures { Outcome (length strip.old) input.now result }
 {
-    match take_in(input, strip) {
-        Ok(count) => taken(&strip[0..count]),
-        Err(fault) => Summary::Refused(fault),
-    }
+    let count = take_in(input, strip)?;
+    Ok(taken(&strip[..count]))
 }
 
 // What is to be reported on an input of at most `MOST` records. It asks for no memory and always answers.
@@ -112,7 +106,7 @@ pub fn summarize(input: &[u8]) -> Summary
         amount: Cents::new(0),
     };
     let mut strip = [blank; MOST];
-    summarize_into(&mut strip, input)
+    Summary(takings_of(&mut strip, input))
 }
 
 // The report on an input as text, where there is memory for it.

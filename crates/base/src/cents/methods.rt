@@ -1,23 +1,16 @@
 // What can be done with an amount: make it, read it, add it, print it.
-ghost use Rattle.std.specs.Prelude.{◌≡◌, ◌%◌, ℤ, ◌+ℤ◌, Some};
+ghost use Rattle.std.specs.Prelude.{◌≡◌, ◌/◌, ◌%◌, ℤ, ◌+ℤ◌, Some};
 ghost use Rattle.std.specs.Int.{int_wrap, w64};
 ghost use Rattle.base.specs.Money.{dollars};
 
 use crate::cents::Cents;
 use std::fmt;
 
-// The sum of two numbers of 64 bits modulo 2^64, in signed form.
-fn wrapping_sum(a: i64, b: i64) -> i64
-    ensures { result ≡ int_wrap w64 (a +ℤ b) }
+// The whole dollars of a number of cents, and the cents that are left.
+fn dollars_and_cents(size: u64) -> (u64, u64)
+    ensures { (result.0 ≡ size / 100) × (result.1 ≡ size % 100) }
 {
-    a.wrapping_add(b)
-}
-
-// The last decimal digit of a number.
-fn last_digit(number: u64) -> u64
-    ensures { result ≡ number % 10 }
-{
-    number % 10
+    (size / 100, size % 100)
 }
 
 impl Cents {
@@ -37,7 +30,7 @@ impl Cents {
     pub fn wrapping_add(self, other: Cents) -> Cents
         ensures { result.cents ≡ int_wrap w64 (self.cents +ℤ other.cents) }
     {
-        Cents::new(wrapping_sum(self.value(), other.value()))
+        Cents::new(self.cents.wrapping_add(other.cents))
     }
 }
 
@@ -46,12 +39,9 @@ impl fmt::Display for Cents {
     ghost output = { λ c. Some (dollars c.cents) };
 
     fn fmt<W: fmt::Write>(&self, f: &mut fmt::Formatter<W>) -> fmt::Result {
-        let Cents { cents: amount } = *self;
+        let amount = self.cents;
         let sign = if amount < 0 { "-" } else { "" };
-        let size = amount.unsigned_abs();
-        let whole = size / 100;
-        let tens = last_digit(size / 10);
-        let units = last_digit(size);
-        write!(f, "{sign}{whole}.{tens}{units}")
+        let (whole, cents) = dollars_and_cents(amount.unsigned_abs());
+        write!(f, "{sign}{whole}.{cents:02}")
     }
 }

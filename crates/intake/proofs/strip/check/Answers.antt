@@ -1,6 +1,5 @@
 use Rattle.std.proofs.Common.{sym, ap, ◌∙◌, subst, arith}
 use Rattle.intake.specs.Inputs.{records}
-use Rattle.intake.proofs.Cutting.{cut_into}
 use Rattle.intake.proofs.Taking.{Sofar, sofar_none, sofar_more, sofar_all, sofar_bad}
 use Rattle.intake.proofs.strip.check.Goals as goal
 
@@ -11,31 +10,22 @@ loop-row-init c =
 
 pub returns-in-Err : goal.returns-in-Err
 returns-in-Err c = record {
-  cut = cut_into c.args.input.now;
-  all = record {
-    row = c.in-Some.row.now;
-    first = sofar_bad c.loop-row.invariant.0 c.args.room _ _ c.in-Some.ensures.steps c.loop-row.invariant.1;
-    bad = c.in-Err.ensures.says;
-  };
+  row = c.in-Some.row.now;
+  first = sofar_bad c.loop-row.invariant.0 c.args.room _ _ c.in-Some.ensures.steps c.loop-row.invariant.1;
+  bad = c.in-Err.ensures.says;
 }
 
 pub returns-then-count-room : goal.returns-then-count-room
 returns-then-count-room c = record {
-  cut = cut_into c.args.input.now;
-  all = record {
-    row = c.in-Some.row.now;
-    line = c.in_default.field-0;
-    first = sofar_bad c.loop-row.invariant.0 c.args.room _ _ c.in-Some.ensures.steps c.loop-row.invariant.1;
-    reads = c.in_default.ensures.says;
-    full = omega arith;
-  };
+  row = c.in-Some.row.now;
+  line = c.in_default.field-0;
+  first = sofar_bad c.loop-row.invariant.0 c.args.room _ _ c.in-Some.ensures.steps c.loop-row.invariant.1;
+  reads = c.in_default.ensures.says;
+  full = omega arith;
 }
 
 pub loop-row-preserved : goal.loop-row-preserved
 loop-row-preserved c = (sofar_more c.loop-row.invariant.0 _ _ _ c.in-Some.ensures.steps c.in_default.ensures.says, omega (arith, c.loop-row.invariant.1))
 
 pub returns : goal.returns
-returns c = record {
-  cut = cut_into c.args.input.now;
-  all = (sofar_all c.loop-row.invariant.0 c.in-None.ensures.steps.0, c.loop-row.invariant.1);
-}
+returns c = (sofar_all c.loop-row.invariant.0 c.in-None.ensures.steps.0, c.loop-row.invariant.1)

@@ -1,5 +1,8 @@
-use Rattle.std.proofs.Common.{◌≡◌, ℕ, List, [], ◌∷◌, length, get_or, Some, None, Option, refl, ap, ◌∙◌, arith, ltb-false, ltb-true, MatchOption}
+use Rattle.std.proofs.Common.{◌≡◌, ℕ, List, [], ◌∷◌, length, get_or, Some, None, Option, Ok, Err, Result, sym, subst, refl, ap, ◌∙◌, arith, ltb-false, ltb-true, MatchOption}
+use Rattle.std.specs.Result.{result_ok}
 use Rattle.lines.specs.declared.line.Pool.{Pool}
+use Rattle.lines.specs.declared.line.UnknownLetter.{UnknownLetter}
+use Rattle.lines.specs.Letters.{StandsFor}
 use Rattle.lines.specs.Lines.{letter_of}
 use Rattle.records.proofs.reader.pool_of.Goals as goal
 
@@ -13,5 +16,9 @@ read : (bytes : List ℕ) (o : Option Pool) → length bytes ≡ 1 → MatchOpti
 read bytes None one h = λ p e. h p (ap (λ l. get_or l 0 0) e)
 read bytes (Some p) one h = alone bytes one ∙ ap (λ b. b ∷ []) h
 
+told : (letter : ℕ) (r : Result Pool UnknownLetter) (o : Option Pool) → StandsFor letter r → o ≡ result_ok r → MatchOption o ((p : Pool) → letter ≡ letter_of p → ⊥) (λ p. letter ≡ letter_of p)
+told letter (Ok p) o h e = subst (λ x. MatchOption x ((q : Pool) → letter ≡ letter_of q → ⊥) (λ q. letter ≡ letter_of q)) (sym e) h
+told letter (Err f) o h e = subst (λ x. MatchOption x ((q : Pool) → letter ≡ letter_of q → ⊥) (λ q. letter ≡ letter_of q)) (sym e) h.0
+
 pub returns : goal.returns
-returns c = read c.args.bytes.now c.from_letter.result (omega (arith, ltb-true, ltb-false)) c.from_letter.ensures
+returns c = read c.args.bytes.now c.ok.result (omega (arith, ltb-true, ltb-false)) (told _ c.try_from.result c.ok.result c.try_from.ensures c.ok.ensures.value)

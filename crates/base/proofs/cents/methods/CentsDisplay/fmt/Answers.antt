@@ -1,6 +1,6 @@
 use Rattle.std.proofs.Common.{◌≡◌, ◌/◌, ◌%◌, ◌∷◌, ◌++◌, nat_abs, decimal, sym, ap, ◌∙◌, subst, w64, SFits, rules}
 use Rattle.std.proofs.lemmas.Int.{to_z-of_z}
-use Rattle.std.specs.Fmt.{HasWritten}
+use Rattle.std.specs.Fmt.{HasWritten, styled_decimal}
 use Rattle.base.specs.Money.{unsigned, dollars}
 use Rattle.base.proofs.Money.{pieces, below_zero, from_zero}
 use Rattle.base.proofs.cents.methods.CentsDisplay.fmt.Given as given
@@ -8,21 +8,22 @@ use Rattle.base.proofs.cents.methods.CentsDisplay.fmt.Goals as goal
 use Rattle.base.proofs.cents.methods.CentsDisplay.fmt.Goals.{then-amount-lt0, else-amount-lt0}
 
 -- what is printed is the amount's text
-text : (g : given.Over) (c : goal.After-write g) → c.if-amount-lt0.sign.now ++ unsigned c.unsigned_abs-size.result ≡ dollars c.args.self.now.cents
+text : (g : given.Over) (c : goal.After-write g) → c.if-amount-lt0.sign.now ++ unsigned c.unsigned_abs.result ≡ dollars c.args.self.now.cents
 text g c =
     let z = c.args.self.now.cents in
     let fits : SFits w64 z = search rules in
-    let size : c.unsigned_abs-size.result ≡ nat_abs z = simp to_z-of_z at c.unsigned_abs-size.ensures.value in
+    let size : c.unsigned_abs.result ≡ nat_abs z = simp to_z-of_z at c.unsigned_abs.ensures.value in
     elim c.if-amount-lt0.branch [
-      | then-amount-lt0 w ↦ ap (λ s. s.now ++ unsigned c.unsigned_abs-size.result) w.sign-is ∙ ap (λ n. 45 ∷ unsigned n) size ∙ sym (below_zero z (simp to_z-of_z at w.if-amount-lt0.true))
-      | else-amount-lt0 w ↦ ap (λ s. s.now ++ unsigned c.unsigned_abs-size.result) w.sign-is ∙ ap unsigned size ∙ sym (from_zero z (simp to_z-of_z at w.if-amount-lt0.false))
+      | then-amount-lt0 w ↦ ap (λ s. s.now ++ unsigned c.unsigned_abs.result) w.sign-is ∙ ap (λ n. 45 ∷ unsigned n) size ∙ sym (below_zero z (simp to_z-of_z at w.if-amount-lt0.true))
+      | else-amount-lt0 w ↦ ap (λ s. s.now ++ unsigned c.unsigned_abs.result) w.sign-is ∙ ap unsigned size ∙ sym (from_zero z (simp to_z-of_z at w.if-amount-lt0.false))
     ]
 
 pub returns-clause-writes : goal.returns-clause-writes
 returns-clause-writes g c plain ok =
     let sign = c.if-amount-lt0.sign.now in
-    let size = c.unsigned_abs-size.result in
-    let tens = c.last_digit-tens.ensures in
-    let units = c.last_digit-units.ensures in
-    let digits = ap (λ d. sign ++ (decimal (size / 100) ++ (46 ∷ (decimal d ++ decimal c.last_digit-units.result)))) tens ∙ ap (λ d. sign ++ (decimal (size / 100) ++ (46 ∷ (decimal (size / 10 % 10) ++ decimal d)))) units in
-    subst (λ bs. HasWritten g.W.Write.write_str_gives c.args.f.now bs c.write.new.self) (digits ∙ ap (λ t. sign ++ t) (pieces size) ∙ text g c) (c.write.ensures.writes plain ok)
+    let size = c.unsigned_abs.result in
+    let parts = c.dollars_and_cents-whole.ensures in
+    let whole = ap (λ n. sign ++ (decimal n ++ (46 ∷ styled_decimal c.laid_out.result c.dollars_and_cents-whole.result.1))) parts.0 in
+    let cents = ap (λ n. sign ++ (decimal (size / 100) ++ (46 ∷ styled_decimal c.laid_out.result n))) parts.1 in
+    let laid_out = ap (λ s. sign ++ (decimal (size / 100) ++ (46 ∷ styled_decimal s (size % 100)))) c.laid_out.ensures in
+    subst (λ bs. HasWritten g.W.Write.write_str_gives c.args.f.now bs c.write.new.self) (whole ∙ cents ∙ laid_out ∙ ap (λ t. sign ++ t) (pieces size) ∙ text g c) (c.write.ensures.writes plain ok)

@@ -1,6 +1,6 @@
 use Rattle.std.proofs.Common.{rules}
 use Rattle.std.proofs.lemmas.Int.{wraps}
-use Rattle.base.proofs.cents.methods.wrapping_sum.Goals as goal
+use Rattle.base.proofs.cents.Cents.wrapping_add.Goals as goal
 
 pub returns : goal.returns
 returns c = search (rules, wraps)
