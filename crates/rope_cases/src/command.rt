@@ -1,0 +1,95 @@
+// What can be asked of the bench, as a line of standard input says it:
+// a letter and the numbers behind it, with a space before each; tests/rope_cases.py lists them.
+use anyhow::{Context, anyhow};
+use lines::Runner;
+use std::str::FromStr;
+
+// The strip that elements are taken from.
+#[derive(Clone, Copy)]
+pub enum Kind {
+    Numbers,
+    Lines,
+    Amounts,
+    Latests,
+}
+
+// Where an element is taken from: a shelf of `count` elements over the first places of a strip, and a position of the tree.
+#[derive(Clone, Copy)]
+pub struct Taking {
+    pub places: usize,
+    pub count: usize,
+    pub position: usize,
+}
+
+#[derive(Clone, Copy)]
+pub enum Command {
+    NewDraft,
+    Leaf { size: usize },
+    Concat { left: usize, right: usize },
+    ShowDraft,
+    Seal,
+    Pack { elements: usize },
+    Restart,
+    Place { position: usize },
+    ShowTree,
+    Take(Kind, Taking),
+    ScratchNone,
+    Scratch(Runner),
+    Unscratch(Runner),
+    IsScratched(Runner),
+}
+
+// The number at a place among the words of a command.
+fn number(words: &str, at: usize) -> anyhow::Result<usize> {
+    let word = words.split(' ').nth(at).context("too few numbers")?;
+    Ok(word.parse::<usize>()?)
+}
+
+fn runner_of(words: &str) -> anyhow::Result<Runner> {
+    Ok(Runner(u8::try_from(number(words, 1)?)?))
+}
+
+fn taking_of(words: &str) -> anyhow::Result<Taking> {
+    Ok(Taking {
+        places: number(words, 1)?,
+        count: number(words, 2)?,
+        position: number(words, 3)?,
+    })
+}
+
+impl FromStr for Command {
+    type Err = anyhow::Error;
+
+    fn from_str(words: &str) -> anyhow::Result<Command> {
+        let letter = words.chars().next().context("no letter")?;
+        Ok(match letter {
+            'D' => Command::NewDraft,
+            'L' => Command::Leaf {
+                size: number(words, 1)?,
+            },
+            'C' => Command::Concat {
+                left: number(words, 1)?,
+                right: number(words, 2)?,
+            },
+            'N' => Command::ShowDraft,
+            'S' => Command::Seal,
+            'K' => Command::Pack {
+                elements: number(words, 1)?,
+            },
+            'R' => Command::Restart,
+            'P' => Command::Place {
+                position: number(words, 1)?,
+            },
+            'T' => Command::ShowTree,
+            'E' => Command::Take(Kind::Numbers, taking_of(words)?),
+            'F' => Command::Take(Kind::Lines, taking_of(words)?),
+            'A' => Command::Take(Kind::Amounts, taking_of(words)?),
+            'G' => Command::Take(Kind::Latests, taking_of(words)?),
+            'Z' => Command::ScratchNone,
+            'I' => Command::Scratch(runner_of(words)?),
+            'O' => Command::Unscratch(runner_of(words)?),
+            'Q' => Command::IsScratched(runner_of(words)?),
+            _ => return Err(anyhow!("another letter")),
+        })
+    }
+}
