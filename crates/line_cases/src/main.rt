@@ -10,14 +10,28 @@ use records::{read_amount, read_line, write_line};
 use std::alloc::{AllocError, Global};
 use std::io::{Read, Write};
 
+// The number of a refusal.
+fn refused(heap: Global, refusal: Refusal) -> Result<String, AllocError> {
+    let number = refusal.number();
+    format!(in heap; "refused,{number}")
+}
+
+// The number of a fault's refusal, and the place that the fault carries.
+fn faulty(heap: Global, fault: LineFault) -> Result<String, AllocError> {
+    let number = Refusal::from(fault).number();
+    match fault {
+        LineFault::Shape => format!(in heap; "refused,{number}"),
+        LineFault::Field { place } | LineFault::Amount { place, .. } => {
+            format!(in heap; "refused,{number},{place}")
+        }
+    }
+}
+
 // The record that the writer makes of a line, or its refusal.
 fn written(heap: Global, line: &Line) -> anyhow::Result<String> {
     match write_line(line) {
         Ok(bytes) => Ok(String::from_str(heap, std::str::from_utf8(&bytes)?)?),
-        Err(refusal) => {
-            let number = refusal.number();
-            Ok(format!(in heap; "refused,{number}")?)
-        }
+        Err(refusal) => Ok(refused(heap, refusal)?),
     }
 }
 
@@ -28,31 +42,15 @@ fn read(heap: Global, row: &[u8]) -> anyhow::Result<String> {
             let record = written(heap, &line)?;
             Ok(format!(in heap; "{line}={record}")?)
         }
-        Err(fault) => Ok(refused(heap, fault)?),
-    }
-}
-
-// The number of a fault, and the place that it carries.
-fn refused(heap: Global, fault: LineFault) -> Result<String, AllocError> {
-    let number = Refusal::from(fault).number();
-    match fault {
-        LineFault::Shape => format!(in heap; "refused,{number}"),
-        LineFault::Field { place } => format!(in heap; "refused,{number},{place}"),
-        LineFault::Amount { place, fault: _ } => format!(in heap; "refused,{number},{place}"),
+        Err(fault) => Ok(faulty(heap, fault)?),
     }
 }
 
 // The cents that an amount says, or the fault.
 fn amount(heap: Global, bytes: &[u8]) -> Result<String, AllocError> {
     match read_amount(bytes) {
-        Ok(amount) => {
-            let cents = amount.value();
-            format!(in heap; "{cents}")
-        }
-        Err(fault) => {
-            let number = Refusal::from(fault).number();
-            format!(in heap; "refused,{number}")
-        }
+        Ok(amount) => amount.value().to_string(heap),
+        Err(fault) => refused(heap, Refusal::from(fault)),
     }
 }
 

@@ -23,6 +23,23 @@ pub struct PoolTally {
     pub total: Cents,
 }
 
+impl PoolTally {
+    // The lines of one pool, counted and added up.
+    fn of(pool: Pool, lines: &[Line]) -> PoolTally
+        ensures { Tallied pool lines.now result }
+    {
+        let total = lines.iter().filter(|line| line.pool == pool).fold(
+            Cents::new(0),
+            |total, line| total.wrapping_add(line.amount),
+        );
+        PoolTally {
+            pool,
+            lines: lines.iter().filter(|line| line.pool == pool).count(),
+            total,
+        }
+    }
+}
+
 impl fmt::Display for PoolTally {
     ghost output = { λ t. Some (row t.pool t.lines t.total.cents) };
 
@@ -37,6 +54,18 @@ impl fmt::Display for PoolTally {
 pub struct Takings {
     pub win: PoolTally,
     pub place: PoolTally,
+}
+
+impl Takings {
+    // What the lines of an input come to.
+    fn of(lines: &[Line]) -> Takings
+        ensures { BothTallied lines.now result }
+    {
+        Takings {
+            win: PoolTally::of(Pool::Win, lines),
+            place: PoolTally::of(Pool::Place, lines),
+        }
+    }
 }
 
 // What is to be reported on an input: what the pools have taken, or why the input is refused.
@@ -59,37 +88,12 @@ impl fmt::Display for Summary {
     }
 }
 
-// The lines of one pool, counted and added up.
-fn tally(pool: Pool, lines: &[Line]) -> PoolTally
-    ensures { Tallied pool lines.now result }
-{
-    let total = lines.iter().filter(|line| line.pool == pool).fold(
-        Cents::new(0),
-        |total, line| total.wrapping_add(line.amount),
-    );
-    PoolTally {
-        pool,
-        lines: lines.iter().filter(|line| line.pool == pool).count(),
-        total,
-    }
-}
-
-// What the lines of an input come to.
-fn taken(lines: &[Line]) -> Takings
-    ensures { BothTallied lines.now result }
-{
-    Takings {
-        win: tally(Pool::Win, lines),
-        place: tally(Pool::Place, lines),
-    }
-}
-
 // What the pools have taken by an input whose lines are taken into a strip.
 fn takings_of(strip: &mut [Line], input: &[u8]) -> Result<Takings, IntakeFault>
     ensures { Outcome (length strip.old) input.now result }
 {
     let count = take_in(input, strip)?;
-    Ok(taken(&strip[..count]))
+    Ok(Takings::of(&strip[..count]))
 }
 
 // What is to be reported on an input of at most `MOST` records. It asks for no memory and always answers.

@@ -10,4 +10,4 @@ returns c =
     let lines = done.all.lines in
     let front = ap (take c.in_ok-count.count) done.strip ∙ take_at lines (drop c.in_ok-count.count c.args.strip.now) c.in_ok-count.count (sym done.all.counted) in
     let fits = subst (λ n. n ≤ length c.args.strip.now) done.all.counted done.room in
-    tallied _ c.args.input.now lines c.taken.result done.all.read fits (subst (λ ls. BothTallied ls c.taken.result) front c.taken.ensures)
+    tallied _ c.args.input.now lines c.of.result done.all.read fits (subst (λ ls. BothTallied ls c.of.result) front c.of.ensures)

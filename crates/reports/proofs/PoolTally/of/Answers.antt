@@ -6,7 +6,7 @@ use Rattle.lines.specs.Lines.{same_pool}
 use Rattle.base.proofs.Money.{same_cents}
 use Rattle.reports.specs.Pools.{lines_of}
 use Rattle.reports.proofs.Totals.{plus, adds_up}
-use Rattle.reports.proofs.tally.Goals as goal
+use Rattle.reports.proofs.PoolTally.of.Goals as goal
 
 pub returns : goal.returns
 returns c =
