@@ -8,7 +8,8 @@ use lines::Runner;
 // A set of runners with numbers from 1 to 24: those that do not start.
 #[derive(Clone, Copy, Debug)]
 pub struct Scratched {
-    // the flag of runner `r` stands at place `r - 1`, and is set if the runner is in the set
+    // the flag of runner `r` stands at place `r - 1`, and is set if the runner is in the set;
+    // an array and not a set of the library, so that the set is copied and making one cannot fail
     flags: [bool; 24],
 }
 

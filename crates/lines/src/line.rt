@@ -7,6 +7,9 @@ use base::Cents;
 use std::error::Error;
 use std::fmt;
 
+// Numbers of three kinds, each a type of its own and not one type over its largest number:
+// that the largest numbers differ is chance, and a race must never pass for a runner.
+
 // The number of a betting terminal; 1 to 999 can be sent.
 #[derive(Clone, Copy, PartialEq, Eq, Debug)]
 pub struct Terminal(pub u16);
