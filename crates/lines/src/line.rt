@@ -34,6 +34,18 @@ pub struct Line {
     pub amount: Cents,
 }
 
+impl Terminal {
+    pub const MOST: u16 = 999;
+}
+
+impl Race {
+    pub const MOST: u8 = 20;
+}
+
+impl Runner {
+    pub const MOST: u8 = 24;
+}
+
 impl Pool {
     // The pool that a letter stands for.
     pub fn from_letter(letter: char) -> Option<Pool>

@@ -1,8 +1,11 @@
 -- A line's fields, put into the 22 bytes of a record. Assumes nothing.
-use Rattle.std.proofs.Common.{◌≡◌, ℕ, ◌+◌, ◌-◌, ◌<◌, List, [], ◌∷◌, ◌++◌, length, take, drop, set, replicate, decimal, sym, refl, ap, ◌∙◌, append_assoc, append-nil, arith, length-append}
+use Rattle.std.proofs.Common.{◌≡◌, ℕ, ◌+◌, ◌-◌, ◌/◌, ◌%◌, ◌^◌, ◌<◌, ◌≤◌, ⊎_elim, List, [], ◌∷◌, ◌++◌, length, take, drop, set, replicate, decimal, sym, refl, ap, ◌∙◌, append_assoc, append-nil, arith, length-append}
 use lib.ListN.{length-replicate}
 use borrow.Rule.Slice.PartMut.{put_mid}
-use Rattle.std.proofs.lemmas.List.{take-replicate, replicate_more, set_at, set-append_right}
+use Rattle.std.proofs.lemmas.List.{take-replicate, replicate_more, set_at}
+use Rattle.std.proofs.lemmas.Fmt.{decimal_digit, decimal_step}
+use Rattle.std.proofs.lemmas.Bool.{cases_lt}
+use Rattle.base.specs.Money.{unsigned}
 use Rattle.records.specs.Written.{right}
 
 -- lists of two and of three
@@ -70,38 +73,33 @@ right_digits width fill number at out room is =
     let many : at ≡ width - length (decimal number) = omega arith in
     is ∙ ap (λ l. l ++ decimal number) (take-replicate at width fill (omega arith) ∙ ap (λ n. replicate n fill) many)
 
--- the ten bytes of an amount: `front` is what stands before the point
-module _ (at whole d e : ℕ) (front : List ℕ) (room : at + length (decimal whole) ≡ 7) (is : front ≡ take at (replicate 7 32) ++ decimal whole) where
-  spaced : front ≡ replicate at 32 ++ decimal whole
-  spaced = is ∙ ap (λ l. l ++ decimal whole) (take-replicate at 7 32 (omega arith))
+-- two digits, with a zero in front where one would do
+two_digits : (n : ℕ) → n < 100 → right 2 48 (decimal n) ≡ (48 + n / 10) ∷ (48 + n % 10) ∷ []
+two_digits n few =
+    ⊎_elim
+    (λ h. let last : n % 10 ≡ n = omega arith in let none : n / 10 ≡ 0 = omega arith in rw (decimal_digit n h, last, none))
+    (λ h. let fits : n < 2 ^ 64 = omega arith in let first : n / 10 < 10 = omega arith in rw (decimal_step n h fits, decimal_digit (n / 10) first))
+    (cases_lt n 10)
 
-  seven : length front ≡ 7
-  seven = ap length spaced ∙ length-append (replicate at 32) (decimal whole) ∙ ap (λ n. n + length (decimal whole)) (length-replicate at 32) ∙ room
+-- the ten bytes of an amount: `front` is what stands before the point, and `behind` what stands behind it
+module _ (m at : ℕ) (front behind : List ℕ) (room : at + length (decimal (m / 100)) ≡ 7) (is : front ≡ take at (replicate 7 32) ++ decimal (m / 100)) (cents : behind ≡ right 2 48 (decimal (m % 100))) where
+  long : length (unsigned m) ≡ length (decimal (m / 100)) + 3
+  long = length-append (decimal (m / 100)) (46 ∷ (48 + m / 10 % 10) ∷ (48 + m % 10) ∷ [])
 
-  text : List ℕ
-  text = decimal whole ++ (46 ∷ d ∷ e ∷ [])
+  ten : front ++ (46 ∷ (behind ++ [])) ≡ replicate at 32 ++ unsigned m
+  ten =
+      let tens : m % 100 / 10 ≡ m / 10 % 10 = omega arith in
+      let ones : m % 100 % 10 ≡ m % 10 = omega arith in
+      let fits : at ≤ 7 = omega arith in
+      let few : m % 100 < 100 = omega arith in
+      rw (is, take-replicate {X = ℕ} at 7 32 fits, append-nil behind, cents, two_digits (m % 100) few, tens, ones, append_assoc)
 
-  text_long : length text ≡ length (decimal whole) + 3
-  unfolding text
-  text_long = length-append (decimal whole) (46 ∷ d ∷ e ∷ [])
+  pub put_plain : front ++ (46 ∷ (behind ++ [])) ≡ right 10 32 (unsigned m)
+  put_plain = ten ∙ ap (λ n. replicate n 32 ++ unsigned m) (omega (arith, long))
 
-  put_point : set (set (set (front ++ (32 ∷ 32 ∷ 32 ∷ [])) 7 46) 8 d) 9 e ≡ replicate at 32 ++ text
-  unfolding text
-  put_point =
-      ap (λ l. set (set l 8 d) 9 e) (set-append_right front (32 ∷ 32 ∷ 32 ∷ []) 7 7 46 seven (omega arith))
-      ∙ ap (λ l. set l 9 e) (set-append_right front (46 ∷ 32 ∷ 32 ∷ []) 7 8 d seven (omega arith))
-      ∙ set-append_right front (46 ∷ d ∷ 32 ∷ []) 7 9 e seven (omega arith)
-      ∙ ap (λ l. l ++ (46 ∷ d ∷ e ∷ [])) spaced
-      ∙ append_assoc (replicate at 32) (decimal whole) (46 ∷ d ∷ e ∷ [])
-
-  pub put_plain : set (set (set (front ++ (32 ∷ 32 ∷ 32 ∷ [])) 7 46) 8 d) 9 e ≡ right 10 32 (decimal whole ++ (46 ∷ d ∷ e ∷ []))
-  unfolding text
-  put_plain = put_point ∙ ap (λ n. replicate n 32 ++ text) (omega (arith, text_long))
-
-  pub put_minus : 0 < at → set (set (set (set (front ++ (32 ∷ 32 ∷ 32 ∷ [])) 7 46) 8 d) 9 e) (at - 1) 45 ≡ right 10 32 (45 ∷ (decimal whole ++ (46 ∷ d ∷ e ∷ [])))
-  unfolding text
+  pub put_minus : 0 < at → set (front ++ (46 ∷ (behind ++ []))) (at - 1) 45 ≡ right 10 32 (45 ∷ unsigned m)
   put_minus some =
       let one : at ≡ at - 1 + 1 = omega arith in
-      ap (λ l. set l (at - 1) 45) (put_point ∙ ap (λ n. replicate n 32 ++ text) one ∙ ap (λ l. l ++ text) (sym (replicate_more (at - 1) 32)) ∙ append_assoc (replicate (at - 1) 32) (32 ∷ []) text)
-      ∙ set_at (replicate (at - 1) 32) 32 text 45 (at - 1) (length-replicate (at - 1) 32)
-      ∙ ap (λ n. replicate n 32 ++ (45 ∷ text)) (omega (arith, text_long))
+      ap (λ l. set l (at - 1) 45) (ten ∙ ap (λ n. replicate n 32 ++ unsigned m) one ∙ ap (λ l. l ++ unsigned m) (sym (replicate_more (at - 1) 32)) ∙ append_assoc (replicate (at - 1) 32) (32 ∷ []) (unsigned m))
+      ∙ set_at (replicate (at - 1) 32) 32 (unsigned m) 45 (at - 1) (length-replicate (at - 1) 32)
+      ∙ ap (λ n. replicate n 32 ++ (45 ∷ unsigned m)) (omega (arith, long))

@@ -1,14 +1,15 @@
-use Rattle.std.proofs.Common.{arith}
-use Rattle.records.proofs.Numbers.{put_first, put_more, put_all}
+use Rattle.std.proofs.Common.{◌≡◌, ◌++◌, length, take, drop, decimal, sym, ap, ◌∙◌, arith, append-nil, take-append-drop}
+use Rattle.std.proofs.lemmas.Fmt.{length-decimal-le}
+use Rattle.std.proofs.lemmas.List.{drop_all}
 use Rattle.records.proofs.writer.put_right.Goals as goal
 
-pub loop-rest-init : goal.loop-rest-init
-loop-rest-init c = put_first c.args.out.now c.args.number c.requires.some c.requires.room (omega arith)
+pub write_digits-requires : goal.write_digits-requires
+write_digits-requires c =
+    (length-decimal-le (length c.args.out.now) c.args.number c.requires.some c.requires.room (omega arith), omega arith)
 
-pub loop-rest-preserved : goal.loop-rest-preserved
-loop-rest-preserved c = put_more _ _ _ _ _ c.loop-rest.invariant c.loop-rest-test.true
-
-pub returns : goal.returns
-returns c =
-    let done = put_all _ _ _ _ _ c.loop-rest.invariant c.loop-rest-test.false in
-    record { place = done.0; after = done.1 }
+pub returns-clause-after : goal.returns-clause-after
+returns-clause-after c =
+    let at = c.write_digits.result in
+    let behind : drop at c.write_digits.new.buf ≡ decimal c.args.number =
+    c.write_digits.ensures.written ∙ ap (λ l. decimal c.args.number ++ l) (drop_all _ c.args.out.now (omega arith)) ∙ append-nil _ in
+    sym (take-append-drop at c.write_digits.new.buf) ∙ ap (λ l. take at c.write_digits.new.buf ++ l) behind ∙ ap (λ l. l ++ decimal c.args.number) c.write_digits.ensures.before
