@@ -15,7 +15,6 @@ use Rattle.records.specs.Written.{right, written, Shows}
 use Rattle.records.specs.Numerals.{Digits, number, Numeral}
 use Rattle.records.proofs.Digits.{own, number_short}
 use Rattle.records.proofs.Reading.{each_field}
-use Rattle.records.proofs.RecordLayout.{two, three, joined}
 
 pub right_long : (width fill : ℕ) (text : List ℕ) → length text ≤ width → length (right width fill text) ≡ width
 right_long width fill text fits =
@@ -106,6 +105,21 @@ reads_shows h = record {
   runner_most = (h.fields Runner).most;
   amount_most = says_few (h.fields Amount);
 }
+
+-- lists of two and of three
+pub two : (P : List ℕ → Type 0) (xs : List ℕ) → length xs ≡ 2 → ((x y : ℕ) → P (x ∷ y ∷ [])) → P xs
+two P [] e h = absurd (omega arith)
+two P (x ∷ []) e h = absurd (omega arith)
+two P (x ∷ y ∷ []) e h = h x y
+two P (x ∷ y ∷ z ∷ xs) e h = absurd (omega arith)
+
+pub three : (P : List ℕ → Type 0) (xs : List ℕ) → length xs ≡ 3 → ((x y z : ℕ) → P (x ∷ y ∷ z ∷ [])) → P xs
+three P [] e h = absurd (omega arith)
+three P (x ∷ xs) e h = two (λ ys. P (x ∷ ys)) xs (omega arith) (h x)
+
+-- the fields with commas between them
+abbrev pub joined : List ℕ → List ℕ → ℕ → List ℕ → List ℕ → List ℕ
+joined t r b n a = t ++ (44 ∷ (r ++ (44 ∷ b ∷ 44 ∷ (n ++ (44 ∷ a)))))
 
 -- what the fields of a record are, by how it is put together
 record Fields (t r : List ℕ) (b : ℕ) (n a row : List ℕ) : Type 0 where

@@ -141,14 +141,20 @@ fault_of field.Amount = fault.Amount (place field.Amount) Form
 -- The record is no line: it lacks the shape, or a field is not fine where all those to its left are.
 pub data FirstFault (row : List ℕ) : LineFault → Type 0 where
   no_shape : (Shaped row → ⊥) → FirstFault row fault.Shape
-  at_field : (left : List Field) (f : Field) (right : List Field) → all_fields ≡ left ++ (f ∷ right) → Shaped row → AllByRecursion (Fine row) left → (Fine row f → ⊥) → FirstFault row (fault_of f)
+  at_field : (left : List Field) (f : Field) (right : List Field) →
+      all_fields ≡ left ++ (f ∷ right) → Shaped row → AllByRecursion (Fine row) left →
+      (Fine row f → ⊥) → FirstFault row (fault_of f)
 
 -- what the bytes of a field say, or its fault where they say nothing
-abbrev pub ReadAs : {A : Type 0} → (List ℕ → A → Type 0) → List ℕ → Field → Result A LineFault → Type 0
-ReadAs Says bytes f answer = MatchResult answer (Says bytes) (λ fault. (fault ≡ fault_of f) × Nothing (Says bytes))
+abbrev pub ReadAs : {A : Type 0} →
+    (List ℕ → A → Type 0) → List ℕ → Field → Result A LineFault → Type 0
+ReadAs Says bytes f answer =
+    MatchResult answer (Says bytes) (λ fault. (fault ≡ fault_of f) × Nothing (Says bytes))
 
--- Reading the next field: what it says or its fault is answered, and the field to its right comes next.
-pub record FieldRead {A : Type 0} (f : Field) (Says : List ℕ → A → Type 0) (before after : Fields) (answer : Result A LineFault) : Type 0 where
+-- Reading the next field: what it says or its fault is answered, and the field to its right
+-- comes next.
+pub record FieldRead {A : Type 0} (f : Field) (Says : List ℕ → A → Type 0)
+    (before after : Fields) (answer : Result A LineFault) : Type 0 where
   pub next : after.next ≡ following f
   pub same : after.row ≡ before.row
   pub says : ReadAs Says (bytes_of f before.row.now) f answer

@@ -89,13 +89,13 @@ impl<'a> Fields<'a> {
             (λ f. Shaped row.now × (f.row.now ≡ row.now) × (f.next ≡ Some field.Terminal)) }
     {
         let row = <&[u8; 22]>::try_from(row).ok()?;
-        match row {
-            [_, _, _, b',', _, _, b',', _, b',', _, _, b',', ..] => Some(Fields {
-                row,
-                next: Some(Field::Terminal),
-            }),
-            _ => None,
-        }
+        let [_, _, _, b',', _, _, b',', _, b',', _, _, b',', ..] = row else {
+            return None;
+        };
+        Some(Fields {
+            row,
+            next: Some(Field::Terminal),
+        })
     }
 }
 

@@ -5,8 +5,8 @@ ghost use Rattle.lines.specs.Lines.{letter_of};
 ghost use Rattle.records.specs.declared.fields.Field.{Field};
 ghost use Rattle.records.specs.declared.fields.Field.TheVariants as kind;
 ghost use Rattle.records.specs.Numerals.{Nothing, Numeral};
-ghost use Rattle.records.specs.Records.{TokenOf, text_of, TerminalSays, RaceSays, PoolSays, RunnerSays, AmountSays};
-ghost use Rattle.records.specs.Records.{ReadAs, FieldRead, Reads, FirstFault};
+ghost use Rattle.records.specs.Records.{TerminalSays, RaceSays, PoolSays, RunnerSays, AmountSays};
+ghost use Rattle.records.specs.Records.{TokenOf, text_of, ReadAs, FieldRead, Reads, FirstFault};
 
 use crate::amount::read_amount;
 use crate::fields::{FieldText, Fields, Token};
@@ -15,7 +15,7 @@ use base::Cents;
 use lines::{Line, LineFault, Pool, Race, Runner, Terminal};
 
 // The number from 1 to `most` that digits say.
-fn number_to(most: u16, digits: &[u8]) -> Option<u16>
+fn number_to(digits: &[u8], most: u16) -> Option<u16>
     requires { length digits.now ≤ 4 }
     ensures { MatchOption result
         (Nothing (Numeral 1 most digits.now))
@@ -32,7 +32,7 @@ fn number_in(text: FieldText<'_>, most: u16) -> Result<u16, LineFault>
         (Numeral 1 most text.entry.bytes.now)
         (λ f. (f ≡ fault.Field text.entry.place) × Nothing (Numeral 1 most text.entry.bytes.now)) }
 {
-    number_to(most, text.bytes).ok_or(LineFault::Field { place: text.place })
+    number_to(text.bytes, most).ok_or(LineFault::Field { place: text.place })
 }
 
 // The pool whose letter the bytes are.

@@ -30,8 +30,8 @@ fn amount_bytes(amount: Cents) -> [u8; 10]
 {
     let size = amount.value().unsigned_abs();
     let mut out = *b"       .00";
-    put_right(&mut out[8..10], size % 100);
-    let at = put_right(&mut out[0..7], size / 100);
+    put_right(&mut out[8..], size % 100);
+    let at = put_right(&mut out[..7], size / 100);
     if amount.value() < 0 {
         out[at - 1] = b'-';
     }
@@ -48,19 +48,25 @@ fn can_be_shown(line: &Line) -> bool
         && line.amount.value().unsigned_abs() <= MOST_CENTS
 }
 
-// The record that says the line, with no line end; refused where a value is one that no field can show.
+// The record that says the line, with no line end.
+// It is refused where a value is one that no field can show.
 pub fn write_line(line: &Line) -> Result<[u8; 22], Refusal>
-    ensures written { MatchResult result (λ bytes. bytes ≡ written line.now) (λ f. f ≡ refusal.Field) }
-    ensures reads { MatchResult result (λ bytes. Reads bytes line.now) (λ _. (row : List ℕ) → Reads row line.now → ⊥) }
+    ensures written { MatchResult result
+        (λ bytes. bytes ≡ written line.now)
+        (λ f. f ≡ refusal.Field) }
+    ensures reads { MatchResult result
+        (λ bytes. Reads bytes line.now)
+        (λ _. (row : List ℕ) → Reads row line.now → ⊥) }
 {
     if !can_be_shown(line) {
         return Err(Refusal::Field);
     }
+    // from the right, so that what stands to the left is still the blank record's
     let mut out = *b"000,00, ,00,          ";
-    put_right(&mut out[0..3], u64::from(line.terminal.0));
-    put_right(&mut out[4..6], u64::from(line.race.0));
-    out[7] = line.pool.letter() as u8;
+    out[12..].copy_from_slice(&amount_bytes(line.amount));
     put_right(&mut out[9..11], u64::from(line.runner.0));
-    out[12..22].copy_from_slice(&amount_bytes(line.amount));
+    out[7] = line.pool.letter() as u8;
+    put_right(&mut out[4..6], u64::from(line.race.0));
+    put_right(&mut out[..3], u64::from(line.terminal.0));
     Ok(out)
 }
