@@ -17,7 +17,7 @@ use Rattle.records.specs.declared.fields.Field.TheVariants as field
 use Rattle.records.specs.declared.fields.Fields.{Fields}
 use Rattle.records.specs.Numerals.{Nothing}
 use Rattle.records.specs.Records.{Shaped, TerminalSays, RaceSays, PoolSays, RunnerSays, AmountSays, FieldSays, Reads, Fine, FieldRead, bytes_of, all_fields, fault_of, FirstFault, no_shape, at_field}
-use Rattle.records.proofs.Amounts.{says_once}
+use Rattle.records.proofs.Amounts.{head_same, tail_same, says_once}
 
 pub excludes : {row : List ℕ} {f : LineFault} {l : Line} → FirstFault row f → Reads row l → ⊥
 excludes (no_shape none) h = none h.shaped
@@ -108,18 +108,12 @@ reaches {row} left f v at read = record {
   fine = All-push (Fine row) left f at.fine (fine f v (reads_as f v at read));
 }
 
-cons_head : {A : Type 0} {x y : A} {xs ys : List A} → x ∷ xs ≡ y ∷ ys → x ≡ y
-cons_head e = cc
-
-cons_tail : {A : Type 0} {x y : A} {xs ys : List A} → x ∷ xs ≡ y ∷ ys → xs ≡ ys
-cons_tail e = cc
-
 -- the first of a list that is not fine is one alone
 first_once : {A : Type 0} (P : A → Type 0) (l m : List A) (x y : A) (xs ys : List A) → l ++ (x ∷ xs) ≡ m ++ (y ∷ ys) → AllByRecursion P l → (P x → ⊥) → AllByRecursion P m → (P y → ⊥) → x ≡ y
-first_once P [] [] x y xs ys e p no_x q no_y = cons_head e
-first_once P [] (b ∷ m) x y xs ys e p no_x q no_y = absurd (no_x (subst P (sym (cons_head e)) q.0))
-first_once P (a ∷ l) [] x y xs ys e p no_x q no_y = absurd (no_y (subst P (cons_head e) p.0))
-first_once P (a ∷ l) (b ∷ m) x y xs ys e p no_x q no_y = first_once P l m x y xs ys (cons_tail e) p.1 no_x q.1 no_y
+first_once P [] [] x y xs ys e p no_x q no_y = head_same e
+first_once P [] (b ∷ m) x y xs ys e p no_x q no_y = absurd (no_x (subst P (sym (head_same e)) q.0))
+first_once P (a ∷ l) [] x y xs ys e p no_x q no_y = absurd (no_y (subst P (head_same e) p.0))
+first_once P (a ∷ l) (b ∷ m) x y xs ys e p no_x q no_y = first_once P l m x y xs ys (tail_same e) p.1 no_x q.1 no_y
 
 -- a record has one first fault at most
 fault_once : {row : List ℕ} {f g : LineFault} → FirstFault row f → FirstFault row g → f ≡ g

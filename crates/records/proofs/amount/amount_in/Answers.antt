@@ -2,7 +2,7 @@ use Rattle.std.proofs.Common.{◌-◌, ◌≤◌, length, take, drop, sym, subst
 use Rattle.std.proofs.lemmas.List.{take_rest}
 use Rattle.std.proofs.lemmas.Grind.{common_steps}
 use Rattle.records.specs.Numerals.{Digits}
-use Rattle.records.proofs.Amounts.{Found, found_says, said_digits, said_some, said_six, said_fraction_digits}
+use Rattle.records.proofs.Amounts.{Found, said_digits, said_some, said_six, said_fraction_digits}
 use Rattle.records.proofs.Digits.{number_short}
 use Rattle.records.proofs.amount.amount_in.Goals as goal
 use Rattle.records.proofs.amount.amount_in.Goals.{After-split_sign-sign, Else-not-contains}
@@ -23,9 +23,6 @@ found c = record {
 -- one to six digits
 few : (c : Else-not-contains) → (1 ≤ length c.split_sign-sign.result.1.now) × (length c.split_sign-sign.result.1.now ≤ 6)
 few c = search rules
-
-pub returns-in_default : goal.returns-in_default
-returns-in_default c = λ z s. omega (arith, s.ten)
 
 pub returns-then-not-contains : goal.returns-then-not-contains
 returns-then-not-contains c = λ z s.
@@ -58,13 +55,3 @@ overflow_add-whole c =
     let six = (few (goal.at.overflow_add-whole c).Else-not-contains).1 in
     let two = length-take (length c.args.bytes.now - 8) (drop 8 c.args.bytes.now) in
     record { fits = omega (arith, whole.1, fraction.1, number_short _ 6 whole.0 six, number_short _ 2 fraction.0 (omega (arith, two))) }
-
-pub returns : goal.returns
-returns c =
-    let at = found (goal.at.returns c).After-split_sign-sign in
-    let whole = c.in_ok-whole.ensures in
-    let fraction = c.in_ok-fraction.ensures in
-    let tail = take_rest c.args.bytes.now 8 in
-    let few = few (goal.at.returns c).Else-not-contains in
-    let said = found_says at whole.0 few.0 few.1 (subst Digits tail fraction.0) in
-    rw (c.times.ensures, whole.1, fraction.1, tail) said

@@ -1,6 +1,6 @@
-use Rattle.std.proofs.Common.{◌≡◌, ℕ, ◌+◌, List, [], ◌∷◌, ◌++◌, length, take, replicate, decimal, sym, ap, ◌∙◌, subst, append-nil}
+use Rattle.std.proofs.Common.{◌≡◌, [], ◌∷◌, ◌++◌, sym, ◌∙◌, subst, append-nil}
 use Rattle.records.specs.Records.{Reads}
-use Rattle.records.specs.Written.{right, written}
+use Rattle.records.specs.Written.{written}
 use Rattle.records.proofs.RecordLayout.{right_digits}
 use Rattle.records.proofs.Writing.{reads_shows, written_reads}
 use Rattle.records.proofs.writer.write_line.Goals as goal
