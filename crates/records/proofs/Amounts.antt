@@ -1,6 +1,6 @@
 -- The bytes of an amount are cut in one way only. Assumes nothing.
-use Rattle.std.proofs.Common.{◌≡◌, ℕ, zero, suc, ◌+◌, ◌*◌, ◌≤◌, List, [], ◌∷◌, ◌++◌, length, get_or, take, drop, replicate, ℤ, sym, refl, ap, ◌∙◌, subst, append_assoc, arith, length-append, length-drop, take-append-drop}
-use Rattle.std.proofs.lemmas.List.{take_at, drop_at, get_or_at, drop_more}
+use Rattle.std.proofs.Common.{◌≡◌, ℕ, zero, suc, ◌+◌, ◌*◌, ◌≤◌, List, [], ◌∷◌, ◌++◌, length, get_or, take, drop, replicate, ℤ, sym, refl, ap, ◌∙◌, subst, append_assoc, arith, length-append}
+use Rattle.std.proofs.lemmas.List.{take_at, drop_at, get_or_at}
 use Rattle.records.specs.declared.amount.Sign.{Sign}
 use Rattle.records.specs.declared.amount.Sign.TheVariants.{Unsigned, Plus, Minus}
 use Rattle.records.specs.Amounts.{sign_bytes, signed, Says}
@@ -65,11 +65,6 @@ pub record Found (bytes : List ℕ) (sign : Sign) (digits : List ℕ) : Type 0 w
   pub split : text ≡ sign_bytes sign ++ digits
   pub bare : Bare sign digits
 
--- the ten bytes around the point
-pub around_point : (bytes : List ℕ) → length bytes ≡ 10 → get_or bytes 7 0 ≡ 46 → bytes ≡ take 7 bytes ++ (46 ∷ drop 8 bytes)
-around_point bytes ten point =
-    sym (take-append-drop 7 bytes) ∙ ap (λ l. take 7 bytes ++ l) (drop_more bytes 7 0 (omega arith) ∙ ap (λ b. b ∷ drop 8 bytes) point)
-
 -- the bytes before the point, as they are said
 abbrev front : {bytes : List ℕ} {z : ℤ} → Says bytes z → List ℕ
 front s = replicate s.spaces 32 ++ (sign_bytes s.sign ++ s.whole)
@@ -117,22 +112,6 @@ module _ {bytes : List ℕ} {z : ℤ} (s : Says bytes z) where
         let wholes = said_same.rest in
         let fractions = said_fraction in
         s.value ∙ cc
-
-pub found_says : {bytes : List ℕ} {sign : Sign} {digits : List ℕ} (found : Found bytes sign digits) → Digits digits → 1 ≤ length digits → length digits ≤ 6 → Digits (drop 8 bytes) → Says bytes (signed sign (100 * number digits + number (drop 8 bytes)))
-found_says {bytes} {sign} {digits} found all some six cents = record {
-  spaces = found.spaces;
-  sign = sign;
-  whole = digits;
-  fraction = drop 8 bytes;
-  layout = around_point bytes found.ten found.point ∙ ap (λ l. l ++ (46 ∷ drop 8 bytes)) (found.padded ∙ ap (λ t. replicate found.spaces 32 ++ t) found.split);
-  ten = found.ten;
-  whole_digits = all;
-  whole_some = some;
-  whole_six = six;
-  fraction_digits = cents;
-  fraction_two = length-drop 8 bytes ∙ omega (arith, found.ten);
-  value = refl;
-}
 
 -- bytes that say an amount have the parts that the reader looks for
 says_found : {bytes : List ℕ} {z : ℤ} (s : Says bytes z) → Found bytes s.sign s.whole

@@ -29,7 +29,7 @@ returns-then-not-contains c = λ z s.
     let at = found (goal.at.returns-then-not-contains c).After-split_sign-sign in
     let some = said_some s at in
     let six = said_six s at in
-    grind (arith, rules, common_steps)
+    grind (arith, common_steps)
 
 pub returns-in_err-whole : goal.returns-in_err-whole
 returns-in_err-whole c =
