@@ -52,7 +52,7 @@ trait FieldValue: Sized {
     // the field
     ghost field: { Field };
 
-    // that its bytes say a value
+    // what its bytes say
     ghost says: { List ℕ → Self → Type 0 };
 
     // The value that the field's token says, or the field's fault.
@@ -149,6 +149,7 @@ pub fn read_line(row: &[u8]) -> Result<Line, LineFault>
     let Some(mut fields) = Fields::of(row) else {
         return Err(LineFault::Shape);
     };
+    // each answer is taken apart where it comes, so that the first fault from the left ends the line
     let answer = next_value::<Terminal>(&mut fields);
     let Ok(terminal) = answer else {
         return Err(answer.unwrap_err());

@@ -61,7 +61,7 @@ pub fn write_line(line: &Line) -> Result<[u8; 22], Refusal>
     if !can_be_shown(line) {
         return Err(Refusal::Field);
     }
-    // from the right, so that what stands to the left is still the blank record's
+    // from the right: what stands to the left of a field is then still the blank record
     let mut out = *b"000,00, ,00,          ";
     out[12..].copy_from_slice(&amount_bytes(line.amount));
     put_right(&mut out[9..11], u64::from(line.runner.0));
