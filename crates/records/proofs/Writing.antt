@@ -105,18 +105,18 @@ reads_shows h = record {
 }
 
 -- lists of two and of three
-pub two : (P : List ℕ → Type 0) (xs : List ℕ) → length xs ≡ 2 → ((x y : ℕ) → P (x ∷ y ∷ [])) → P xs
+two : (P : List ℕ → Type 0) (xs : List ℕ) → length xs ≡ 2 → ((x y : ℕ) → P (x ∷ y ∷ [])) → P xs
 two P [] e h = absurd (omega arith)
 two P (x ∷ []) e h = absurd (omega arith)
 two P (x ∷ y ∷ []) e h = h x y
 two P (x ∷ y ∷ z ∷ xs) e h = absurd (omega arith)
 
-pub three : (P : List ℕ → Type 0) (xs : List ℕ) → length xs ≡ 3 → ((x y z : ℕ) → P (x ∷ y ∷ z ∷ [])) → P xs
+three : (P : List ℕ → Type 0) (xs : List ℕ) → length xs ≡ 3 → ((x y z : ℕ) → P (x ∷ y ∷ z ∷ [])) → P xs
 three P [] e h = absurd (omega arith)
 three P (x ∷ xs) e h = two (λ ys. P (x ∷ ys)) xs (omega arith) (h x)
 
 -- the fields with commas between them
-abbrev pub joined : List ℕ → List ℕ → ℕ → List ℕ → List ℕ → List ℕ
+abbrev joined : List ℕ → List ℕ → ℕ → List ℕ → List ℕ → List ℕ
 joined t r b n a = t ++ (44 ∷ (r ++ (44 ∷ b ∷ 44 ∷ (n ++ (44 ∷ a)))))
 
 -- what the fields of a record are, by how it is put together

@@ -5,7 +5,7 @@ use Rattle.records.specs.Numerals.{Digit, Digits, number}
 use Rattle.records.proofs.Digits.{number_short, number_more}
 use Rattle.records.proofs.numeral.numeral.Goals as goal
 
--- the number so far is below a million
+-- the number so far is below a hundred thousand
 short : (digits : List ℕ) (i n : ℕ) → length digits ≤ 6 → i < length digits → Digits (take i digits) → n ≡ number (take i digits) → n < 100000
 short digits i n few at all is =
     let long : length (take i digits) ≤ 5 = subst (λ k. k ≤ 5) (sym (length-take-le i digits (omega arith))) (omega arith) in
