@@ -1,26 +1,29 @@
 -- The bytes of an amount are cut in one way only. Assumes nothing.
-use Rattle.std.proofs.Common.{◌≡◌, ℕ, zero, suc, ◌+◌, ◌*◌, ◌≤◌, List, [], ◌∷◌, ◌++◌, length, get_or, take, drop, replicate, ℤ, sym, refl, ap, ◌∙◌, subst, append_assoc, arith, length-append, length-drop, take-append-drop}
-use Rattle.std.proofs.lemmas.List.{take_at, drop_at, get_or_at, drop_more}
+use Rattle.std.proofs.Common.{◌≡◌, ℕ, zero, suc, ◌+◌, ◌*◌, ◌≤◌, List, [], ◌∷◌, ◌++◌, length, get_or, take, drop, replicate, ℤ, sym, refl, ap, ◌∙◌, subst, append_assoc, arith, length-append}
+use Rattle.std.proofs.lemmas.List.{take_at, drop_at, get_or_at}
 use Rattle.records.specs.declared.amount.Sign.{Sign}
 use Rattle.records.specs.declared.amount.Sign.TheVariants.{Unsigned, Plus, Minus}
 use Rattle.records.specs.Amounts.{sign_bytes, signed, Says}
 use Rattle.records.specs.Numerals.{Digit, Digits, number}
 
--- the text does not begin with the byte b
+-- the first byte, and what a text does not begin with
+abbrev pub first : List ℕ → ℕ
+first text = get_or text 0 0
+
 abbrev pub Lacks : ℕ → List ℕ → Type 0
-Lacks b text = get_or text 0 0 ≡ b → ⊥
+Lacks b text = first text ≡ b → ⊥
 
-head_same : {a b : ℕ} {xs ys : List ℕ} → a ∷ xs ≡ b ∷ ys → a ≡ b
-head_same e = ap (λ l. get_or l 0 0) e
+pub head_same : {A : Type 0} {a b : A} {xs ys : List A} → a ∷ xs ≡ b ∷ ys → a ≡ b
+head_same e = cc
 
-tail_same : {a b : ℕ} {xs ys : List ℕ} → a ∷ xs ≡ b ∷ ys → xs ≡ ys
-tail_same e = ap (drop 1) e
+pub tail_same : {A : Type 0} {a b : A} {xs ys : List A} → a ∷ xs ≡ b ∷ ys → xs ≡ ys
+tail_same e = cc
 
 -- spaces in front can be taken off in one way only
 unpadded_once : (j k : ℕ) (s t : List ℕ) → Lacks 32 s → Lacks 32 t → replicate j 32 ++ s ≡ replicate k 32 ++ t → s ≡ t
 unpadded_once zero zero s t p q e = e
-unpadded_once zero (suc k) s t p q e = absurd (p (ap (λ l. get_or l 0 0) e))
-unpadded_once (suc j) zero s t p q e = absurd (q (sym (ap (λ l. get_or l 0 0) e)))
+unpadded_once zero (suc k) s t p q e = absurd (p (ap first e))
+unpadded_once (suc j) zero s t p q e = absurd (q (sym (ap first e)))
 unpadded_once (suc j) (suc k) s t p q e = unpadded_once j k s t p q (tail_same e)
 
 -- a sign is taken off in one way only
@@ -31,21 +34,25 @@ pub record Same (s : Sign) (xs : List ℕ) (t : Sign) (ys : List ℕ) : Type 0 w
   pub sign : s ≡ t
   pub rest : xs ≡ ys
 
-unsigned_once : (s t : Sign) (d : ℕ) (ds ys : List ℕ) → Digit d → Bare t ys → sign_bytes s ++ (d ∷ ds) ≡ sign_bytes t ++ ys → Same s (d ∷ ds) t ys
-unsigned_once Unsigned Unsigned d ds ys h b e = record { sign = refl; rest = e }
-unsigned_once Unsigned Plus d ds ys h b e = let z : d ≡ 43 = head_same e in absurd (omega arith)
-unsigned_once Unsigned Minus d ds ys h b e = let z : d ≡ 45 = head_same e in absurd (omega arith)
-unsigned_once Plus Unsigned d ds ys h b e = absurd ((b refl).0 (sym (ap (λ l. get_or l 0 0) e)))
-unsigned_once Plus Plus d ds ys h b e = record { sign = refl; rest = tail_same e }
-unsigned_once Plus Minus d ds ys h b e = let z : ◌≡◌ {A = ℕ} 43 45 = head_same e in absurd (omega arith)
-unsigned_once Minus Unsigned d ds ys h b e = absurd ((b refl).1 (sym (ap (λ l. get_or l 0 0) e)))
-unsigned_once Minus Plus d ds ys h b e = let z : ◌≡◌ {A = ℕ} 45 43 = head_same e in absurd (omega arith)
-unsigned_once Minus Minus d ds ys h b e = record { sign = refl; rest = tail_same e }
+first_digit : (ds : List ℕ) → Digits ds → 1 ≤ length ds → Digit (first ds)
+first_digit [] all some = absurd (omega arith)
+first_digit (d ∷ ds) all some = all.0
 
-no_space : (s : Sign) (d : ℕ) (ds : List ℕ) → Digit d → Lacks 32 (sign_bytes s ++ (d ∷ ds))
-no_space Unsigned d ds h e = omega arith
-no_space Plus d ds h e = omega arith
-no_space Minus d ds h e = omega arith
+unsigned_once : (s t : Sign) (ds ys : List ℕ) → Digit (first ds) → Bare t ys → sign_bytes s ++ ds ≡ sign_bytes t ++ ys → Same s ds t ys
+unsigned_once Unsigned Unsigned ds ys h b e = record { sign = refl; rest = e }
+unsigned_once Unsigned Plus ds ys h b e = absurd (omega (arith, ap first e))
+unsigned_once Unsigned Minus ds ys h b e = absurd (omega (arith, ap first e))
+unsigned_once Plus Unsigned ds ys h b e = absurd ((b refl).0 (sym (ap first e)))
+unsigned_once Plus Plus ds ys h b e = record { sign = refl; rest = tail_same e }
+unsigned_once Plus Minus ds ys h b e = absurd (omega (arith, ap first e))
+unsigned_once Minus Unsigned ds ys h b e = absurd ((b refl).1 (sym (ap first e)))
+unsigned_once Minus Plus ds ys h b e = absurd (omega (arith, ap first e))
+unsigned_once Minus Minus ds ys h b e = record { sign = refl; rest = tail_same e }
+
+no_space : (s : Sign) (ds : List ℕ) → Digit (first ds) → Lacks 32 (sign_bytes s ++ ds)
+no_space Unsigned ds h e = omega arith
+no_space Plus ds h e = omega arith
+no_space Minus ds h e = omega arith
 
 -- what the reader finds in ten bytes with a point at 7: the spaces, the sign and what stands behind them
 pub record Found (bytes : List ℕ) (sign : Sign) (digits : List ℕ) : Type 0 where
@@ -57,11 +64,6 @@ pub record Found (bytes : List ℕ) (sign : Sign) (digits : List ℕ) : Type 0 w
   pub unpadded : Lacks 32 text
   pub split : text ≡ sign_bytes sign ++ digits
   pub bare : Bare sign digits
-
--- the ten bytes around the point
-pub around_point : (bytes : List ℕ) → length bytes ≡ 10 → get_or bytes 7 0 ≡ 46 → bytes ≡ take 7 bytes ++ (46 ∷ drop 8 bytes)
-around_point bytes ten point =
-    sym (take-append-drop 7 bytes) ∙ ap (λ l. take 7 bytes ++ l) (drop_more bytes 7 0 (omega arith) ∙ ap (λ b. b ∷ drop 8 bytes) point)
 
 -- the bytes before the point, as they are said
 abbrev front : {bytes : List ℕ} {z : ℤ} → Says bytes z → List ℕ
@@ -86,17 +88,11 @@ module _ {bytes : List ℕ} {z : ℤ} (s : Says bytes z) where
 
   -- what was said is what the reader finds
   module _ {sign : Sign} {digits : List ℕ} (found : Found bytes sign digits) where
-    same_text : (whole : List ℕ) → whole ≡ s.whole → Same s.sign whole sign digits
-    same_text [] e = absurd (omega (arith, s.whole_some, ap length e))
-    same_text (d ∷ ds) e =
-        let first : Digits (d ∷ ds) = subst Digits (sym e) s.whole_digits in
-        let text : sign_bytes s.sign ++ (d ∷ ds) ≡ found.text =
-        unpadded_once s.spaces found.spaces _ _ (no_space s.sign d ds first.0) found.unpadded
-        (ap (λ w. replicate s.spaces 32 ++ (sign_bytes s.sign ++ w)) e ∙ sym said_front ∙ found.padded) in
-        unsigned_once s.sign sign d ds digits first.0 found.bare (text ∙ found.split)
-
     pub said_same : Same s.sign s.whole sign digits
-    said_same = same_text s.whole refl
+    said_same =
+        let digit = first_digit s.whole s.whole_digits s.whole_some in
+        let text = unpadded_once s.spaces found.spaces _ found.text (no_space s.sign s.whole digit) found.unpadded (sym said_front ∙ found.padded) in
+        unsigned_once s.sign sign s.whole digits digit found.bare (text ∙ found.split)
 
     pub said_digits : Digits digits
     said_digits = subst Digits said_same.rest s.whole_digits
@@ -117,40 +113,21 @@ module _ {bytes : List ℕ} {z : ℤ} (s : Says bytes z) where
         let fractions = said_fraction in
         s.value ∙ cc
 
-pub found_says : {bytes : List ℕ} {sign : Sign} {digits : List ℕ} (found : Found bytes sign digits) → Digits digits → 1 ≤ length digits → length digits ≤ 6 → Digits (drop 8 bytes) → Says bytes (signed sign (100 * number digits + number (drop 8 bytes)))
-found_says {bytes} {sign} {digits} found all some six cents = record {
-  spaces = found.spaces;
-  sign = sign;
-  whole = digits;
-  fraction = drop 8 bytes;
-  layout = around_point bytes found.ten found.point ∙ ap (λ l. l ++ (46 ∷ drop 8 bytes)) (found.padded ∙ ap (λ t. replicate found.spaces 32 ++ t) found.split);
-  ten = found.ten;
-  whole_digits = all;
-  whole_some = some;
-  whole_six = six;
-  fraction_digits = cents;
-  fraction_two = length-drop 8 bytes ∙ omega (arith, found.ten);
-  value = refl;
-}
-
 -- bytes that say an amount have the parts that the reader looks for
-says_found : {bytes : List ℕ} {z : ℤ} (s : Says bytes z) (whole : List ℕ) → s.whole ≡ whole → Found bytes s.sign s.whole
-says_found s [] e = absurd (omega (arith, s.whole_some, ap length e))
-says_found {bytes} s (d ∷ ds) e =
-    let first : Digits (d ∷ ds) = subst Digits e s.whole_digits in
+says_found : {bytes : List ℕ} {z : ℤ} (s : Says bytes z) → Found bytes s.sign s.whole
+says_found s =
+    let digit = first_digit s.whole s.whole_digits s.whole_some in
     record {
       spaces = s.spaces;
       text = sign_bytes s.sign ++ s.whole;
       ten = s.ten;
       point = said_point s;
       padded = said_front s;
-      unpadded = subst (λ w. Lacks 32 (sign_bytes s.sign ++ w)) (sym e) (no_space s.sign d ds first.0);
+      unpadded = no_space s.sign s.whole digit;
       split = refl;
-      bare = λ _. subst (λ w. Lacks 43 w × Lacks 45 w) (sym e) (λ is. omega (arith, first.0), λ is. omega (arith, first.0));
+      bare = λ _. (λ is. omega (arith, digit), λ is. omega (arith, digit));
     }
 
 -- bytes say at most one amount
 pub says_once : {bytes : List ℕ} {y z : ℤ} → Says bytes y → Says bytes z → y ≡ z
-says_once s t =
-    let found = says_found s s.whole refl in
-    said_value s found ∙ sym (said_value t found)
+says_once s t = let found = says_found s in said_value s found ∙ sym (said_value t found)

@@ -10,16 +10,15 @@ use Rattle.records.specs.declared.fields.Field.TheVariants.{Terminal, Race, Pool
 use Rattle.lines.specs.declared.line.Line.{Line}
 use Rattle.records.specs.Amounts.{sign_bytes, signed, Says}
 use Rattle.lines.specs.Lines.{letter_of}
-use Rattle.records.specs.Records.{Shaped, bytes_of, Reads}
+use Rattle.records.specs.Records.{Shaped, TerminalSays, RaceSays, RunnerSays, AmountSays, bytes_of, Reads}
 use Rattle.records.specs.Written.{right, written, Shows}
 use Rattle.records.specs.Numerals.{Digits, number, Numeral}
 use Rattle.records.proofs.Digits.{own, number_short}
+use Rattle.records.proofs.RecordLayout.{whole_six, unsigned_long}
 use Rattle.records.proofs.Reading.{each_field}
-use Rattle.records.proofs.RecordLayout.{two, three, joined}
 
-pub right_long : (width fill : ℕ) (text : List ℕ) → length text ≤ width → length (right width fill text) ≡ width
-right_long width fill text fits =
-    length-append (replicate (width - length text) fill) text ∙ ap (λ n. n + length text) (length-replicate (width - length text) fill) ∙ omega arith
+right_long : (width fill : ℕ) (text : List ℕ) → length text ≤ width → length (right width fill text) ≡ width
+right_long width fill text fits = simp (length-append, length-replicate) (omega arith)
 
 -- zeros in front change nothing
 zeros_digits : (k : ℕ) (ds : List ℕ) → Digits ds → Digits (replicate k 48 ++ ds)
@@ -30,56 +29,54 @@ zeros_number : (k : ℕ) (ds : List ℕ) → number (replicate k 48 ++ ds) ≡ n
 zeros_number zero ds = refl
 zeros_number (suc k) ds = zeros_number k ds
 
-right_says : (width most n : ℕ) → n < 2 ^ 64 → 1 ≤ n → n ≤ most → Numeral 1 most (right width 48 (decimal n)) n
-right_says width most n fits least top = record {
-  digits = zeros_digits (width - length (decimal n)) (decimal n) (digits_decimal own n fits);
-  says = sym (zeros_number (width - length (decimal n)) (decimal n) ∙ digits_value-decimal own n fits);
-  least = least;
-  most = top;
-}
+-- the digits of a number from 1 to `most`, at the right of as many bytes as `most` has digits
+number_field : (width most n : ℕ) → 0 < width → most < 10 ^ width → most < 2 ^ 64 → 1 ≤ n → n ≤ most → (length (right width 48 (decimal n)) ≡ width) × Numeral 1 most (right width 48 (decimal n)) n
+number_field width most n some room fits least top =
+    let zeros = width - length (decimal n) in
+    let small : n < 2 ^ 64 = omega arith in (
+      right_long width 48 (decimal n) (length-decimal-le width n some (omega arith) small),
+      record {
+        digits = zeros_digits zeros (decimal n) (digits_decimal own n small);
+        says = sym (zeros_number zeros (decimal n) ∙ digits_value-decimal own n small);
+        least = least;
+        most = top;
+      },
+    )
 
 -- the ten bytes of an amount say it
 module _ (m : ℕ) (few : m ≤ 99999999) where
-  fraction : List ℕ
+  abbrev fraction : List ℕ
   fraction = (48 + m / 10 % 10) ∷ (48 + m % 10) ∷ []
 
   fraction_says : number fraction ≡ m / 10 % 10 * 10 + m % 10
-  unfolding fraction
   fraction_says = omega arith
-
-  whole_six : length (decimal (m / 100)) ≤ 6
-  whole_six = length-decimal-le 6 (m / 100) (omega arith) (omega arith) (omega arith)
 
   sum : 100 * number (decimal (m / 100)) + number fraction ≡ m
   sum = omega (arith, digits_value-decimal own (m / 100) (omega arith), fraction_says)
 
-  amount_says : (sign : Sign) (text : List ℕ) → text ≡ sign_bytes sign ++ unsigned m → length (sign_bytes sign) ≤ 1 → Says (right 10 32 text) (signed sign m)
-  unfolding fraction
-  amount_says sign text is one =
-      let k = 10 - length text in
-      let short : length (decimal (m / 100)) ≤ 6 = whole_six in
-      let long : length text ≡ length (sign_bytes sign) + (length (decimal (m / 100)) + 3) =
-      ap length is ∙ length-append (sign_bytes sign) (unsigned m) ∙ ap (λ n. length (sign_bytes sign) + n) (length-append (decimal (m / 100)) (46 ∷ fraction)) in
+  amount_says : (sign : Sign) → length (sign_bytes sign) ≤ 1 → Says (right 10 32 (sign_bytes sign ++ unsigned m)) (signed sign m)
+  amount_says sign one =
+      let text : List ℕ = sign_bytes sign ++ unsigned m in
+      let six = whole_six m few in
+      let long : length text ≡ length (sign_bytes sign) + length (unsigned m) = length-append (sign_bytes sign) (unsigned m) in
       record {
-        spaces = k;
+        spaces = 10 - length text;
         sign = sign;
         whole = decimal (m / 100);
         fraction = fraction;
-        layout =
-            ap (λ l. replicate k 32 ++ l) (is ∙ sym (append_assoc (sign_bytes sign) (decimal (m / 100)) (46 ∷ fraction)))
-            ∙ sym (append_assoc (replicate k 32) (sign_bytes sign ++ decimal (m / 100)) (46 ∷ fraction));
-        ten = right_long 10 32 text (omega arith);
+        layout = simp append_assoc;
+        ten = right_long 10 32 text (omega (arith, unsigned_long m));
         whole_digits = digits_decimal own (m / 100) (omega arith);
         whole_some = decimal_nonempty (m / 100) (omega arith);
-        whole_six = short;
+        whole_six = six;
         fraction_digits = ((omega arith, omega arith), ((omega arith, omega arith), tt));
         fraction_two = refl;
         value = ap (signed sign) (sym sum);
       }
 
-pub dollars_says : (z : ℤ) → nat_abs z ≤ 99999999 → Says (right 10 32 (dollars z)) z
-dollars_says (pos n) few = amount_says n few Unsigned (unsigned n) refl (omega arith)
-dollars_says (negsuc n) few = amount_says (suc n) few Minus (45 ∷ unsigned (suc n)) refl (omega arith)
+dollars_says : (z : ℤ) → nat_abs z ≤ 99999999 → Says (right 10 32 (dollars z)) z
+dollars_says (pos n) few = amount_says n few Unsigned (omega arith)
+dollars_says (negsuc n) few = amount_says (suc n) few Minus (omega arith)
 
 signed_size : (sign : Sign) (m : ℕ) → nat_abs (signed sign m) ≡ m
 signed_size Unsigned m = refl
@@ -107,6 +104,21 @@ reads_shows h = record {
   amount_most = says_few (h.fields Amount);
 }
 
+-- lists of two and of three
+two : (P : List ℕ → Type 0) (xs : List ℕ) → length xs ≡ 2 → ((x y : ℕ) → P (x ∷ y ∷ [])) → P xs
+two P [] e h = absurd (omega arith)
+two P (x ∷ []) e h = absurd (omega arith)
+two P (x ∷ y ∷ []) e h = h x y
+two P (x ∷ y ∷ z ∷ xs) e h = absurd (omega arith)
+
+three : (P : List ℕ → Type 0) (xs : List ℕ) → length xs ≡ 3 → ((x y z : ℕ) → P (x ∷ y ∷ z ∷ [])) → P xs
+three P [] e h = absurd (omega arith)
+three P (x ∷ xs) e h = two (λ ys. P (x ∷ ys)) xs (omega arith) (h x)
+
+-- the fields with commas between them
+abbrev joined : List ℕ → List ℕ → ℕ → List ℕ → List ℕ → List ℕ
+joined t r b n a = t ++ (44 ∷ (r ++ (44 ∷ b ∷ 44 ∷ (n ++ (44 ∷ a)))))
+
 -- what the fields of a record are, by how it is put together
 record Fields (t r : List ℕ) (b : ℕ) (n a row : List ℕ) : Type 0 where
   shaped : Shaped row
@@ -132,18 +144,17 @@ joined_fields t r b n a ht hr hn ha =
 
 pub written_reads : (l : Line) → Shows l → Reads (written l) l
 written_reads l s =
-    let fields = joined_fields
-    (right 3 48 (decimal l.terminal.0)) (right 2 48 (decimal l.race.0)) (letter_of l.pool) (right 2 48 (decimal l.runner.0)) (right 10 32 (dollars l.amount.cents))
-    (right_long 3 48 _ (length-decimal-le 3 l.terminal.0 (omega arith) (omega (arith, s.terminal_most)) (omega (arith, s.terminal_most))))
-    (right_long 2 48 _ (length-decimal-le 2 l.race.0 (omega arith) (omega (arith, s.race_most)) (omega (arith, s.race_most))))
-    (right_long 2 48 _ (length-decimal-le 2 l.runner.0 (omega arith) (omega (arith, s.runner_most)) (omega (arith, s.runner_most))))
-    (dollars_says l.amount.cents s.amount_most).ten in
+    let terminal = number_field 3 999 l.terminal.0 (omega arith) (omega arith) (omega arith) s.terminal_least s.terminal_most in
+    let race = number_field 2 20 l.race.0 (omega arith) (omega arith) (omega arith) s.race_least s.race_most in
+    let runner = number_field 2 24 l.runner.0 (omega arith) (omega arith) (omega arith) s.runner_least s.runner_most in
+    let amount = dollars_says l.amount.cents s.amount_most in
+    let fields = joined_fields _ _ (letter_of l.pool) _ _ terminal.0 race.0 runner.0 amount.ten in
     record {
       shaped = fields.shaped;
       fields = each_field _ l
-          (subst (λ bytes. Numeral 1 999 bytes l.terminal.0) (sym fields.terminal) (right_says 3 999 l.terminal.0 (omega (arith, s.terminal_most)) s.terminal_least s.terminal_most))
-          (subst (λ bytes. Numeral 1 20 bytes l.race.0) (sym fields.race) (right_says 2 20 l.race.0 (omega (arith, s.race_most)) s.race_least s.race_most))
+          (subst (λ bytes. TerminalSays bytes l.terminal) (sym fields.terminal) terminal.1)
+          (subst (λ bytes. RaceSays bytes l.race) (sym fields.race) race.1)
           fields.pool
-          (subst (λ bytes. Numeral 1 24 bytes l.runner.0) (sym fields.runner) (right_says 2 24 l.runner.0 (omega (arith, s.runner_most)) s.runner_least s.runner_most))
-          (subst (λ bytes. Says bytes l.amount.cents) (sym fields.amount) (dollars_says l.amount.cents s.amount_most));
+          (subst (λ bytes. RunnerSays bytes l.runner) (sym fields.runner) runner.1)
+          (subst (λ bytes. AmountSays bytes l.amount) (sym fields.amount) amount);
     }

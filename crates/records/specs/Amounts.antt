@@ -16,7 +16,8 @@ signed Unsigned n = pos n
 signed Plus n = pos n
 signed Minus n = neg_ℤ (pos n)
 
--- The bytes say an amount in cents: spaces, at most one sign, one to six digits, a point and two digits, ten bytes in all.
+-- The bytes say an amount in cents: spaces, at most one sign, one to six digits, a point and two
+-- digits, ten bytes in all.
 -- The sign stands for the whole amount, so it counts where the dollars are 0.
 pub record Says (bytes : List ℕ) (cents : ℤ) : Type 0 where
   pub spaces : ℕ

@@ -1,6 +1,7 @@
 // The amount field: what its ten bytes say.
-ghost use Rattle.std.specs.Prelude.{◌≡◌, ◌-◌, ◌++◌, length, replicate, ℤ, MatchResult, ◌≢◌, slice_index};
+ghost use Rattle.std.specs.Prelude.{◌≡◌, ◌-◌, ◌++◌, length, replicate, ℤ, MatchOption, MatchResult, ◌≢◌, slice_index};
 ghost use Rattle.records.specs.Amounts.{sign_bytes, signed, Says};
+ghost use Rattle.records.specs.Numerals.{Nothing};
 ghost use Rattle.records.specs.Examples.{WorkedAmounts};
 ghost use Rattle.lines.specs.declared.faults.AmountFault.TheVariants.{Form};
 ghost use Rattle.records.specs.declared.amount.Sign.TheVariants.{Unsigned};
@@ -10,6 +11,7 @@ use base::Cents;
 use lines::AmountFault;
 
 // The sign before an amount's digits, if there is one.
+// No sign is a case of its own and no `None`: so one table says what each of the three means.
 #[derive(Clone, Copy)]
 pub enum Sign {
     Unsigned,
@@ -35,17 +37,15 @@ fn unpadded(text: &[u8]) -> &[u8]
     ensures layout { text.now ≡ replicate (length text.now - length result.now) 32 ++ result.now }
     ensures bare { slice_index result.now 0 ≢ 32 }
 {
-    let mut rest = text;
-    while let [b' ', behind @ ..] = rest {
-        rest = behind;
-    }
-    rest
+    let spaces = text.iter().take_while(|b| **b == b' ').count();
+    &text[spaces..]
 }
 
 // The sign in front, and the text behind it.
 fn split_sign(text: &[u8]) -> (Sign, &[u8])
     ensures layout { text.now ≡ sign_bytes result.0 ++ result.1.now }
-    ensures bare { result.0 ≡ Unsigned → (slice_index result.1.now 0 ≢ 43) × (slice_index result.1.now 0 ≢ 45) }
+    ensures bare { result.0 ≡ Unsigned →
+        (slice_index result.1.now 0 ≢ 43) × (slice_index result.1.now 0 ≢ 45) }
 {
     match text {
         [b'+', behind @ ..] => (Sign::Plus, behind),
@@ -54,24 +54,29 @@ fn split_sign(text: &[u8]) -> (Sign, &[u8])
     }
 }
 
+// The amount that the bytes say, if they say one.
+fn amount_in(bytes: &[u8]) -> Option<Cents>
+    ensures { MatchOption result (Nothing (Says bytes.now)) (λ c. Says bytes.now c.cents) }
+{
+    let [_, _, _, _, _, _, _, b'.', _, _] = bytes else {
+        return None;
+    };
+    let (sign, digits) = split_sign(unpadded(&bytes[..7]));
+    if !(1..=6).contains(&digits.len()) {
+        return None;
+    }
+    let whole = numeral(digits)?;
+    let fraction = numeral(&bytes[8..])?;
+    Some(sign.times(100 * whole + fraction))
+}
+
 // What the bytes of an amount say, in cents.
 pub fn read_amount(bytes: &[u8]) -> Result<Cents, AmountFault>
-    ensures says { MatchResult result (λ c. Says bytes.now c.cents) (λ f. (f ≡ Form) × ((z : ℤ) → Says bytes.now z → ⊥)) }
+    ensures says { MatchResult result
+        (λ c. Says bytes.now c.cents)
+        (λ f. (f ≡ Form) × ((z : ℤ) → Says bytes.now z → ⊥)) }
     ensures only { (z : ℤ) → Says bytes.now z → MatchResult result (λ c. c.cents ≡ z) (λ _. ⊥) }
     ensures examples { WorkedAmounts }
 {
-    if bytes.len() != 10 || bytes[7] != b'.' {
-        return Err(AmountFault::Form);
-    }
-    let (sign, digits) = split_sign(unpadded(&bytes[0..7]));
-    if digits.is_empty() || digits.len() > 6 {
-        return Err(AmountFault::Form);
-    }
-    let Some(whole) = numeral(digits) else {
-        return Err(AmountFault::Form);
-    };
-    let Some(fraction) = numeral(&bytes[8..10]) else {
-        return Err(AmountFault::Form);
-    };
-    Ok(sign.times(100 * whole + fraction))
+    amount_in(bytes).ok_or(AmountFault::Form)
 }

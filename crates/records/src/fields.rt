@@ -1,6 +1,6 @@
 // A record cut into its fields, which are handed out one at a time from the left.
 ghost use Rattle.std.specs.Prelude.{◌≡◌, MatchOption};
-ghost use Rattle.records.specs.Records.{Shaped, HandsOut, fields_from};
+ghost use Rattle.records.specs.Records.{Shaped, following, TokenOf, HandsOut, fields_from};
 ghost use Rattle.records.specs.declared.fields.Field.TheVariants as field;
 ghost use Rattle.std.specs.Iterator.{at_most};
 
@@ -14,14 +14,64 @@ pub enum Field {
     Amount,
 }
 
-// A field as it stands in the input: the bytes that hold it, and the place of the first of them in the record.
+// The bytes that hold a field, and the place of the first of them in the record.
+#[derive(Clone, Copy, Debug)]
+pub struct FieldText<'a> {
+    pub place: usize,
+    pub bytes: &'a [u8],
+}
+
+// A field as it stands in the input.
 #[derive(Clone, Copy, Debug)]
 pub enum Token<'a> {
-    Terminal { place: usize, bytes: &'a [u8] },
-    Race { place: usize, bytes: &'a [u8] },
-    Pool { place: usize, bytes: &'a [u8] },
-    Runner { place: usize, bytes: &'a [u8] },
-    Amount { place: usize, bytes: &'a [u8] },
+    Terminal(FieldText<'a>),
+    Race(FieldText<'a>),
+    Pool(FieldText<'a>),
+    Runner(FieldText<'a>),
+    Amount(FieldText<'a>),
+}
+
+impl Field {
+    // The field to the right, if there is one.
+    fn following(self) -> Option<Field>
+        ensures { result ≡ following self }
+    {
+        match self {
+            Field::Terminal => Some(Field::Race),
+            Field::Race => Some(Field::Pool),
+            Field::Pool => Some(Field::Runner),
+            Field::Runner => Some(Field::Amount),
+            Field::Amount => None,
+        }
+    }
+
+    // The field as it stands in a record.
+    fn token(self, row: &[u8; 22]) -> Token<'_>
+        ensures { TokenOf row.now self result }
+    {
+        match self {
+            Field::Terminal => Token::Terminal(FieldText {
+                place: 0,
+                bytes: &row[0..3],
+            }),
+            Field::Race => Token::Race(FieldText {
+                place: 4,
+                bytes: &row[4..6],
+            }),
+            Field::Pool => Token::Pool(FieldText {
+                place: 7,
+                bytes: &row[7..8],
+            }),
+            Field::Runner => Token::Runner(FieldText {
+                place: 9,
+                bytes: &row[9..11],
+            }),
+            Field::Amount => Token::Amount(FieldText {
+                place: 12,
+                bytes: &row[12..22],
+            }),
+        }
+    }
 }
 
 // What is left to hand out of a record.
@@ -34,18 +84,18 @@ pub struct Fields<'a> {
 impl<'a> Fields<'a> {
     // The fields of a record that has 22 bytes, with its commas.
     pub fn of(row: &'a [u8]) -> Option<Fields<'a>>
-        ensures { MatchOption result (Shaped row.now → ⊥) (λ f. Shaped row.now × (f.row.now ≡ row.now) × (f.next ≡ Some field.Terminal)) }
+        ensures { MatchOption result
+            (Shaped row.now → ⊥)
+            (λ f. Shaped row.now × (f.row.now ≡ row.now) × (f.next ≡ Some field.Terminal)) }
     {
-        let Ok(row) = <&[u8; 22]>::try_from(row) else {
+        let row = <&[u8; 22]>::try_from(row).ok()?;
+        let [_, _, _, b',', _, _, b',', _, b',', _, _, b',', ..] = row else {
             return None;
         };
-        match row {
-            [_, _, _, b',', _, _, b',', _, b',', _, _, b',', ..] => Some(Fields {
-                row,
-                next: Some(Field::Terminal),
-            }),
-            _ => None,
-        }
+        Some(Fields {
+            row,
+            next: Some(Field::Terminal),
+        })
     }
 }
 
@@ -57,44 +107,8 @@ impl<'a> Iterator for Fields<'a> {
     ghost remaining = { λ s. at_most (fields_from s.next) };
 
     fn next(&mut self) -> Option<Token<'a>> {
-        let row = self.row;
-        match self.next {
-            Some(Field::Terminal) => {
-                self.next = Some(Field::Race);
-                Some(Token::Terminal {
-                    place: 0,
-                    bytes: &row[0..3],
-                })
-            }
-            Some(Field::Race) => {
-                self.next = Some(Field::Pool);
-                Some(Token::Race {
-                    place: 4,
-                    bytes: &row[4..6],
-                })
-            }
-            Some(Field::Pool) => {
-                self.next = Some(Field::Runner);
-                Some(Token::Pool {
-                    place: 7,
-                    bytes: &row[7..8],
-                })
-            }
-            Some(Field::Runner) => {
-                self.next = Some(Field::Amount);
-                Some(Token::Runner {
-                    place: 9,
-                    bytes: &row[9..11],
-                })
-            }
-            Some(Field::Amount) => {
-                self.next = None;
-                Some(Token::Amount {
-                    place: 12,
-                    bytes: &row[12..22],
-                })
-            }
-            None => None,
-        }
+        let field = self.next?;
+        self.next = field.following();
+        Some(field.token(self.row))
     }
 }

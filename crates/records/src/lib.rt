@@ -8,6 +8,6 @@ mod reader;
 mod writer;
 
 pub use amount::read_amount;
-pub use fields::{Field, Fields, Token};
+pub use fields::{Field, FieldText, Fields, Token};
 pub use reader::read_line;
 pub use writer::write_line;

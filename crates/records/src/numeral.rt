@@ -4,14 +4,14 @@ ghost use Rattle.records.specs.Numerals.{Digits, number};
 // The number that at most six digits say, or none where some byte is no digit.
 pub(crate) fn numeral(digits: &[u8]) -> Option<u32>
     requires { length digits.now ≤ 6 }
-    ensures { MatchOption result (Digits digits.now → ⊥) (λ n. Digits digits.now × (n ≡ number digits.now)) }
+    ensures { MatchOption result
+        (Digits digits.now → ⊥)
+        (λ n. Digits digits.now × (n ≡ number digits.now)) }
 {
+    // a loop: with `try_fold` it cannot be proved that the closure's product and sum fit
     let mut n = 0;
     for d in digits {
-        if !d.is_ascii_digit() {
-            return None;
-        }
-        n = n * 10 + u32::from(*d - b'0');
+        n = n * 10 + char::from(*d).to_digit(10)?;
     }
     Some(n)
 }

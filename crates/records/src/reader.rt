@@ -1,103 +1,143 @@
 // Reads one record.
-ghost use Rattle.std.specs.Prelude.{◌≡◌, ℕ, ◌≤◌, [], ◌∷◌, length, MatchOption, MatchResult, ◌≢◌};
-ghost use Rattle.records.specs.declared.fields.Field.TheVariants as field;
+ghost use Rattle.std.specs.Prelude.{◌≡◌, ℕ, ◌≤◌, List, [], ◌∷◌, length, MatchOption, MatchResult, ◌≢◌};
+ghost use Rattle.lines.specs.declared.faults.LineFault.TheVariants as fault;
 ghost use Rattle.lines.specs.Lines.{letter_of};
-ghost use Rattle.records.specs.Records.{TerminalSays, RaceSays, PoolSays, RunnerSays, AmountSays, FieldRead, Reads, FirstFault};
-ghost use Rattle.records.specs.Numerals.{Numeral};
+ghost use Rattle.records.specs.declared.fields.Field.{Field};
+ghost use Rattle.records.specs.declared.fields.Field.TheVariants as kind;
+ghost use Rattle.records.specs.Numerals.{Nothing, Numeral};
+ghost use Rattle.records.specs.Records.{TerminalSays, RaceSays, PoolSays, RunnerSays, AmountSays};
+ghost use Rattle.records.specs.Records.{TokenOf, text_of, ReadAs, FieldRead, Reads, FirstFault};
 
 use crate::amount::read_amount;
-use crate::fields::{Fields, Token};
+use crate::fields::{FieldText, Fields, Token};
 use crate::numeral::numeral;
 use base::Cents;
 use lines::{Line, LineFault, Pool, Race, Runner, Terminal};
 
 // The number from 1 to `most` that digits say.
-fn number_to(most: u16, bytes: &[u8]) -> Option<u16>
-    requires { length bytes.now ≤ 4 }
-    ensures { MatchOption result ((n : ℕ) → Numeral 1 most bytes.now n → ⊥) (λ n. Numeral 1 most bytes.now n) }
+fn number_to(digits: &[u8], most: u16) -> Option<u16>
+    requires { length digits.now ≤ 4 }
+    ensures { MatchOption result
+        (Nothing (Numeral 1 most digits.now))
+        (Numeral 1 most digits.now) }
 {
-    let n = numeral(bytes)?;
-    if n < 1 || n > u32::from(most) {
-        return None;
-    }
-    Some(n as u16)
+    let n = u16::try_from(numeral(digits)?).ok()?;
+    (1..=most).contains(&n).then_some(n)
+}
+
+// The number from 1 to `most` that a field says, or the field's fault.
+fn number_in(text: FieldText<'_>, most: u16) -> Result<u16, LineFault>
+    requires { length text.bytes.now ≤ 4 }
+    ensures { MatchResult result
+        (Numeral 1 most text.entry.bytes.now)
+        (λ f. (f ≡ fault.Field text.entry.place) × Nothing (Numeral 1 most text.entry.bytes.now)) }
+{
+    number_to(text.bytes, most).ok_or(LineFault::Field { place: text.place })
 }
 
 // The pool whose letter the bytes are.
 fn pool_of(bytes: &[u8]) -> Option<Pool>
-    ensures { MatchOption result ((p : Pool) → bytes.now ≢ letter_of p ∷ []) (λ p. bytes.now ≡ letter_of p ∷ []) }
+    ensures { MatchOption result
+        ((p : Pool) → bytes.now ≢ letter_of p ∷ [])
+        (λ p. bytes.now ≡ letter_of p ∷ []) }
 {
     let [letter] = bytes else {
         return None;
     };
-    Pool::try_from(*letter as char).ok()
+    Pool::try_from(char::from(*letter)).ok()
 }
 
-// Each of these reads the next field, which is the one that it is named for.
+// A value that one of the fields says.
+trait FieldValue: Sized {
+    // the field
+    ghost field: { Field };
 
-fn terminal(fields: &mut Fields<'_>) -> Result<Terminal, LineFault>
-    requires { fields.old.next ≡ Some field.Terminal }
-    ensures { FieldRead field.Terminal (λ row t. TerminalSays row t.0) fields.old fields.new result }
-{
-    let Some(Token::Terminal { place, bytes }) = fields.next() else {
-        unreachable()
-    };
-    match number_to(999, bytes) {
-        Some(n) => Ok(Terminal(n)),
-        None => Err(LineFault::Field { place }),
+    // what its bytes say
+    ghost says: { List ℕ → Self → Type 0 };
+
+    // The value that the field's token says, or the field's fault.
+    fn read(token: Token<'_>) -> Result<Self, LineFault>
+        requires { (row : List ℕ) × TokenOf row field token }
+        ensures { ReadAs says (text_of token.entry).bytes.now field result };
+}
+
+impl FieldValue for Terminal {
+    ghost field = { kind.Terminal };
+
+    ghost says = { TerminalSays };
+
+    fn read(token: Token<'_>) -> Result<Terminal, LineFault> {
+        let Token::Terminal(text) = token else {
+            unreachable()
+        };
+        Ok(Terminal(number_in(text, Terminal::MOST)?))
     }
 }
 
-fn race(fields: &mut Fields<'_>) -> Result<Race, LineFault>
-    requires { fields.old.next ≡ Some field.Race }
-    ensures { FieldRead field.Race (λ row t. RaceSays row t.0) fields.old fields.new result }
-{
-    let Some(Token::Race { place, bytes }) = fields.next() else {
-        unreachable()
-    };
-    match number_to(20, bytes) {
-        Some(n) => Ok(Race(n as u8)),
-        None => Err(LineFault::Field { place }),
+impl FieldValue for Race {
+    ghost field = { kind.Race };
+
+    ghost says = { RaceSays };
+
+    fn read(token: Token<'_>) -> Result<Race, LineFault> {
+        let Token::Race(text) = token else {
+            unreachable()
+        };
+        Ok(Race(number_in(text, u16::from(Race::MOST))? as u8))
     }
 }
 
-fn pool(fields: &mut Fields<'_>) -> Result<Pool, LineFault>
-    requires { fields.old.next ≡ Some field.Pool }
-    ensures { FieldRead field.Pool PoolSays fields.old fields.new result }
-{
-    let Some(Token::Pool { place, bytes }) = fields.next() else {
-        unreachable()
-    };
-    match pool_of(bytes) {
-        Some(pool) => Ok(pool),
-        None => Err(LineFault::Field { place }),
+impl FieldValue for Pool {
+    ghost field = { kind.Pool };
+
+    ghost says = { PoolSays };
+
+    fn read(token: Token<'_>) -> Result<Pool, LineFault> {
+        let Token::Pool(text) = token else {
+            unreachable()
+        };
+        pool_of(text.bytes).ok_or(LineFault::Field { place: text.place })
     }
 }
 
-fn runner(fields: &mut Fields<'_>) -> Result<Runner, LineFault>
-    requires { fields.old.next ≡ Some field.Runner }
-    ensures { FieldRead field.Runner (λ row t. RunnerSays row t.0) fields.old fields.new result }
-{
-    let Some(Token::Runner { place, bytes }) = fields.next() else {
-        unreachable()
-    };
-    match number_to(24, bytes) {
-        Some(n) => Ok(Runner(n as u8)),
-        None => Err(LineFault::Field { place }),
+impl FieldValue for Runner {
+    ghost field = { kind.Runner };
+
+    ghost says = { RunnerSays };
+
+    fn read(token: Token<'_>) -> Result<Runner, LineFault> {
+        let Token::Runner(text) = token else {
+            unreachable()
+        };
+        Ok(Runner(number_in(text, u16::from(Runner::MOST))? as u8))
     }
 }
 
-fn amount(fields: &mut Fields<'_>) -> Result<Cents, LineFault>
-    requires { fields.old.next ≡ Some field.Amount }
-    ensures { FieldRead field.Amount (λ row c. AmountSays row c.cents) fields.old fields.new result }
+impl FieldValue for Cents {
+    ghost field = { kind.Amount };
+
+    ghost says = { AmountSays };
+
+    fn read(token: Token<'_>) -> Result<Cents, LineFault> {
+        let Token::Amount(text) = token else {
+            unreachable()
+        };
+        read_amount(text.bytes).map_err(|fault| LineFault::Amount {
+            place: text.place,
+            fault,
+        })
+    }
+}
+
+// Reads the next field, which is the one that says such a value.
+fn next_value<T: FieldValue>(fields: &mut Fields<'_>) -> Result<T, LineFault>
+    requires { fields.old.next ≡ Some T.field }
+    ensures { FieldRead T.field T.says fields.old fields.new result }
 {
-    let Some(Token::Amount { place, bytes }) = fields.next() else {
+    let Some(token) = fields.next() else {
         unreachable()
     };
-    match read_amount(bytes) {
-        Ok(amount) => Ok(amount),
-        Err(fault) => Err(LineFault::Amount { place, fault }),
-    }
+    T::read(token)
 }
 
 // The line that a record says, or the first fault from the left.
@@ -109,23 +149,24 @@ pub fn read_line(row: &[u8]) -> Result<Line, LineFault>
     let Some(mut fields) = Fields::of(row) else {
         return Err(LineFault::Shape);
     };
-    let answer = terminal(&mut fields);
+    // each answer is taken apart where it comes, so that the first fault from the left ends the line
+    let answer = next_value::<Terminal>(&mut fields);
     let Ok(terminal) = answer else {
         return Err(answer.unwrap_err());
     };
-    let answer = race(&mut fields);
+    let answer = next_value::<Race>(&mut fields);
     let Ok(race) = answer else {
         return Err(answer.unwrap_err());
     };
-    let answer = pool(&mut fields);
+    let answer = next_value::<Pool>(&mut fields);
     let Ok(pool) = answer else {
         return Err(answer.unwrap_err());
     };
-    let answer = runner(&mut fields);
+    let answer = next_value::<Runner>(&mut fields);
     let Ok(runner) = answer else {
         return Err(answer.unwrap_err());
     };
-    let answer = amount(&mut fields);
+    let answer = next_value::<Cents>(&mut fields);
     let Ok(amount) = answer else {
         return Err(answer.unwrap_err());
     };

@@ -6,24 +6,21 @@ ghost use Rattle.records.specs.Records.{Reads};
 ghost use Rattle.records.specs.Written.{right, written, Shows};
 
 use base::{Cents, Refusal};
-use lines::Line;
+use itoa::write_digits;
+use lines::{Line, Race, Runner, Terminal};
+
+// The largest amount that ten bytes can hold, in cents.
+const MOST_CENTS: u64 = 99_999_999;
 
 // Puts the digits of `number` at the right of `out`, and answers the place of the first of them.
-fn put_right(out: &mut [u8], number: u32) -> usize
+fn put_right(out: &mut [u8], number: u64) -> usize
     requires some { 0 < length out.old }
     requires room { number < 10 ^ length out.old }
     ensures place { result + length (decimal number) ≡ length out.old }
     ensures after { out.new ≡ take result out.old ++ decimal number }
 {
-    let mut at = out.len() - 1;
-    let mut rest = number;
-    out[at] = b'0' + (rest % 10) as u8;
-    while rest >= 10 {
-        rest /= 10;
-        at -= 1;
-        out[at] = b'0' + (rest % 10) as u8;
-    }
-    at
+    let end = out.len();
+    write_digits(number, out, end)
 }
 
 // The ten bytes of an amount of at most six digits of dollars.
@@ -31,12 +28,10 @@ fn amount_bytes(amount: Cents) -> [u8; 10]
     requires { unsigned_abs amount.cents ≤ 99999999 }
     ensures { result ≡ right 10 32 (dollars amount.cents) }
 {
-    let size = amount.value().unsigned_abs() as u32;
-    let mut out = [b' '; 10];
-    let at = put_right(&mut out[0..7], size / 100);
-    out[7] = b'.';
-    out[8] = b'0' + (size / 10 % 10) as u8;
-    out[9] = b'0' + (size % 10) as u8;
+    let size = amount.value().unsigned_abs();
+    let mut out = *b"       .00";
+    put_right(&mut out[8..], size % 100);
+    let at = put_right(&mut out[..7], size / 100);
     if amount.value() < 0 {
         out[at - 1] = b'-';
     }
@@ -47,32 +42,31 @@ fn amount_bytes(amount: Cents) -> [u8; 10]
 fn can_be_shown(line: &Line) -> bool
     ensures { MatchBool result (Shows line.now) (Shows line.now → ⊥) }
 {
-    let terminal = line.terminal.0;
-    let race = line.race.0;
-    let runner = line.runner.0;
-    let size = line.amount.value().unsigned_abs();
-    1 <= terminal
-        && terminal <= 999
-        && 1 <= race
-        && race <= 20
-        && 1 <= runner
-        && runner <= 24
-        && size <= 99_999_999
+    (1..=Terminal::MOST).contains(&line.terminal.0)
+        && (1..=Race::MOST).contains(&line.race.0)
+        && (1..=Runner::MOST).contains(&line.runner.0)
+        && line.amount.value().unsigned_abs() <= MOST_CENTS
 }
 
-// The record that says the line, with no line end; refused where a value is one that no field can show.
+// The record that says the line, with no line end.
+// It is refused where a value is one that no field can show.
 pub fn write_line(line: &Line) -> Result<[u8; 22], Refusal>
-    ensures written { MatchResult result (λ bytes. bytes ≡ written line.now) (λ f. f ≡ refusal.Field) }
-    ensures reads { MatchResult result (λ bytes. Reads bytes line.now) (λ _. (row : List ℕ) → Reads row line.now → ⊥) }
+    ensures written { MatchResult result
+        (λ bytes. bytes ≡ written line.now)
+        (λ f. f ≡ refusal.Field) }
+    ensures reads { MatchResult result
+        (λ bytes. Reads bytes line.now)
+        (λ _. (row : List ℕ) → Reads row line.now → ⊥) }
 {
     if !can_be_shown(line) {
         return Err(Refusal::Field);
     }
+    // from the right: what stands to the left of a field is then still the blank record
     let mut out = *b"000,00, ,00,          ";
-    put_right(&mut out[0..3], u32::from(line.terminal.0));
-    put_right(&mut out[4..6], u32::from(line.race.0));
+    out[12..].copy_from_slice(&amount_bytes(line.amount));
+    put_right(&mut out[9..11], u64::from(line.runner.0));
     out[7] = char::from(line.pool) as u8;
-    put_right(&mut out[9..11], u32::from(line.runner.0));
-    out[12..22].copy_from_slice(&amount_bytes(line.amount));
+    put_right(&mut out[4..6], u64::from(line.race.0));
+    put_right(&mut out[..3], u64::from(line.terminal.0));
     Ok(out)
 }

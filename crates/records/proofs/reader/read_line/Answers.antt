@@ -1,81 +1,67 @@
-use Rattle.std.proofs.Common.{◌≡◌, [], ◌∷◌, Ok, sym, refl, ap, ◌∙◌, subst}
+use Rattle.std.proofs.Common.{[], ◌∷◌, Ok, refl, ap}
 use Rattle.lines.specs.declared.line.Line.{Line}
 use Rattle.records.specs.declared.fields.Field.TheVariants.{Terminal, Race, Pool, Runner, Amount}
-use Rattle.records.specs.Records.{TerminalSays, RaceSays, PoolSays, RunnerSays, AmountSays, Reads, no_shape, at_field}
-use Rattle.records.proofs.Reading.{each_field, fine_terminal, fine_race, fine_pool, fine_runner, excludes, turned_away, reads_once}
+use Rattle.records.specs.Records.{Reads, no_shape}
+use Rattle.records.proofs.Reading.{Reached, reads_as, reaches, stops, each_field, excludes, turned_away, reads_once}
 use Rattle.records.proofs.reader.read_line.Goals as goal
+use Rattle.records.proofs.reader.read_line.Goals.{In-Some}
+
+-- no field is read yet
+start : (c : In-Some) → Reached c.args.row.now c.in-Some.fields []
+start c = record { shaped = c.in-Some.ensures.0; same = c.in-Some.ensures.1; fine = tt }
 
 pub returns-in_default : goal.returns-in_default
-returns-in_default c = let t = turned_away refl (no_shape c.in_default.ensures) in record { says = t.says; only = t.only; first = t.first }
+returns-in_default c =
+    let t = turned_away refl (no_shape c.in_default.ensures) in
+    record { says = t.says; only = t.only; first = t.first }
 
 pub returns-in_default-answer : goal.returns-in_default-answer
 returns-in_default-answer c =
-    let of = c.in-Some.ensures in
-    let row_0 = of.1 in
-    let bad = c.in_default-answer.ensures.says in
-    let same : c.in_default-answer.field-0 ≡ c.unwrap_err.result = cc in
-    let fault = at_field ([]) Terminal (Race ∷ Pool ∷ Runner ∷ Amount ∷ []) refl of.0 tt (λ fine. bad.1 fine.line.terminal (subst (λ r. TerminalSays r fine.line.terminal.0) (sym row_0) fine.says)) in
-    let t = turned_away (sym bad.0 ∙ same) fault in
+    let at_terminal = start (goal.at.returns-in_default-answer c).In-Some in
+    let t = stops [] Terminal (Race ∷ Pool ∷ Runner ∷ Amount ∷ []) refl at_terminal c.in_default-answer.ensures (cc) in
     record { says = t.says; only = t.only; first = t.first }
 
 pub returns-in_default-answer-2 : goal.returns-in_default-answer-2
 returns-in_default-answer-2 c =
-    let of = c.in-Some.ensures in
-    let row_0 = of.1 in
-    let row_1 = ap (λ r. r.now) c.terminal-answer.ensures.same ∙ row_0 in
-    let bad = c.in_default-answer-2.ensures.says in
-    let same : c.in_default-answer-2.field-0 ≡ c.unwrap_err-in_default-answer-2.result = cc in
-    let fault = at_field (Terminal ∷ []) Race (Pool ∷ Runner ∷ Amount ∷ []) refl of.0 (fine_terminal _ row_0 c.in-Ok.ensures.says, tt) (λ fine. bad.1 fine.line.race (subst (λ r. RaceSays r fine.line.race.0) (sym row_1) fine.says)) in
-    let t = turned_away (sym bad.0 ∙ same) fault in
+    let at_terminal = start (goal.at.returns-in_default-answer-2 c).In-Some in
+    let at_race = reaches [] Terminal c.in-Ok.terminal at_terminal c.in-Ok.ensures in
+    let t = stops (Terminal ∷ []) Race (Pool ∷ Runner ∷ Amount ∷ []) refl at_race c.in_default-answer-2.ensures (cc) in
     record { says = t.says; only = t.only; first = t.first }
 
 pub returns-in_default-answer-3 : goal.returns-in_default-answer-3
 returns-in_default-answer-3 c =
-    let of = c.in-Some.ensures in
-    let row_0 = of.1 in
-    let row_1 = ap (λ r. r.now) c.terminal-answer.ensures.same ∙ row_0 in
-    let row_2 = ap (λ r. r.now) c.race-answer.ensures.same ∙ row_1 in
-    let bad = c.in_default-answer-3.ensures.says in
-    let same : c.in_default-answer-3.field-0 ≡ c.unwrap_err-in_default-answer-3.result = cc in
-    let fault = at_field (Terminal ∷ Race ∷ []) Pool (Runner ∷ Amount ∷ []) refl of.0 (fine_terminal _ row_0 c.in-Ok.ensures.says, (fine_race _ row_1 c.in-Ok-answer.ensures.says, tt)) (λ fine. bad.1 fine.line.pool (subst (λ r. PoolSays r fine.line.pool) (sym row_2) fine.says)) in
-    let t = turned_away (sym bad.0 ∙ same) fault in
+    let at_terminal = start (goal.at.returns-in_default-answer-3 c).In-Some in
+    let at_race = reaches [] Terminal c.in-Ok.terminal at_terminal c.in-Ok.ensures in
+    let at_pool = reaches (Terminal ∷ []) Race c.in-Ok-answer.race at_race c.in-Ok-answer.ensures in
+    let t = stops (Terminal ∷ Race ∷ []) Pool (Runner ∷ Amount ∷ []) refl at_pool c.in_default-answer-3.ensures (cc) in
     record { says = t.says; only = t.only; first = t.first }
 
 pub returns-in_default-answer-4 : goal.returns-in_default-answer-4
 returns-in_default-answer-4 c =
-    let of = c.in-Some.ensures in
-    let row_0 = of.1 in
-    let row_1 = ap (λ r. r.now) c.terminal-answer.ensures.same ∙ row_0 in
-    let row_2 = ap (λ r. r.now) c.race-answer.ensures.same ∙ row_1 in
-    let row_3 = ap (λ r. r.now) c.pool-answer.ensures.same ∙ row_2 in
-    let bad = c.in_default-answer-4.ensures.says in
-    let same : c.in_default-answer-4.field-0 ≡ c.unwrap_err-in_default-answer-4.result = cc in
-    let fault = at_field (Terminal ∷ Race ∷ Pool ∷ []) Runner (Amount ∷ []) refl of.0 (fine_terminal _ row_0 c.in-Ok.ensures.says, (fine_race _ row_1 c.in-Ok-answer.ensures.says, (fine_pool _ row_2 c.in-Ok-answer-2.ensures.says, tt))) (λ fine. bad.1 fine.line.runner (subst (λ r. RunnerSays r fine.line.runner.0) (sym row_3) fine.says)) in
-    let t = turned_away (sym bad.0 ∙ same) fault in
+    let at_terminal = start (goal.at.returns-in_default-answer-4 c).In-Some in
+    let at_race = reaches [] Terminal c.in-Ok.terminal at_terminal c.in-Ok.ensures in
+    let at_pool = reaches (Terminal ∷ []) Race c.in-Ok-answer.race at_race c.in-Ok-answer.ensures in
+    let at_runner = reaches (Terminal ∷ Race ∷ []) Pool c.in-Ok-answer-2.pool at_pool c.in-Ok-answer-2.ensures in
+    let t = stops (Terminal ∷ Race ∷ Pool ∷ []) Runner (Amount ∷ []) refl at_runner c.in_default-answer-4.ensures (cc) in
     record { says = t.says; only = t.only; first = t.first }
 
 pub returns-in_default-answer-5 : goal.returns-in_default-answer-5
 returns-in_default-answer-5 c =
-    let of = c.in-Some.ensures in
-    let row_0 = of.1 in
-    let row_1 = ap (λ r. r.now) c.terminal-answer.ensures.same ∙ row_0 in
-    let row_2 = ap (λ r. r.now) c.race-answer.ensures.same ∙ row_1 in
-    let row_3 = ap (λ r. r.now) c.pool-answer.ensures.same ∙ row_2 in
-    let row_4 = ap (λ r. r.now) c.runner-answer.ensures.same ∙ row_3 in
-    let bad = c.in_default-answer-5.ensures.says in
-    let same : c.in_default-answer-5.field-0 ≡ c.unwrap_err-in_default-answer-5.result = cc in
-    let fault = at_field (Terminal ∷ Race ∷ Pool ∷ Runner ∷ []) Amount ([]) refl of.0 (fine_terminal _ row_0 c.in-Ok.ensures.says, (fine_race _ row_1 c.in-Ok-answer.ensures.says, (fine_pool _ row_2 c.in-Ok-answer-2.ensures.says, (fine_runner _ row_3 c.in-Ok-answer-3.ensures.says, tt)))) (λ fine. bad.1 fine.line.amount (subst (λ r. AmountSays r fine.line.amount.cents) (sym row_4) fine.says)) in
-    let t = turned_away (sym bad.0 ∙ same) fault in
+    let at_terminal = start (goal.at.returns-in_default-answer-5 c).In-Some in
+    let at_race = reaches [] Terminal c.in-Ok.terminal at_terminal c.in-Ok.ensures in
+    let at_pool = reaches (Terminal ∷ []) Race c.in-Ok-answer.race at_race c.in-Ok-answer.ensures in
+    let at_runner = reaches (Terminal ∷ Race ∷ []) Pool c.in-Ok-answer-2.pool at_pool c.in-Ok-answer-2.ensures in
+    let at_amount = reaches (Terminal ∷ Race ∷ Pool ∷ []) Runner c.in-Ok-answer-3.runner at_runner c.in-Ok-answer-3.ensures in
+    let t = stops (Terminal ∷ Race ∷ Pool ∷ Runner ∷ []) Amount [] refl at_amount c.in_default-answer-5.ensures (cc) in
     record { says = t.says; only = t.only; first = t.first }
 
 pub returns : goal.returns
 returns c =
-    let of = c.in-Some.ensures in
-    let row_0 = of.1 in
-    let row_1 = ap (λ r. r.now) c.terminal-answer.ensures.same ∙ row_0 in
-    let row_2 = ap (λ r. r.now) c.race-answer.ensures.same ∙ row_1 in
-    let row_3 = ap (λ r. r.now) c.pool-answer.ensures.same ∙ row_2 in
-    let row_4 = ap (λ r. r.now) c.runner-answer.ensures.same ∙ row_3 in
+    let at_terminal = start (goal.at.returns c).In-Some in
+    let at_race = reaches [] Terminal c.in-Ok.terminal at_terminal c.in-Ok.ensures in
+    let at_pool = reaches (Terminal ∷ []) Race c.in-Ok-answer.race at_race c.in-Ok-answer.ensures in
+    let at_runner = reaches (Terminal ∷ Race ∷ []) Pool c.in-Ok-answer-2.pool at_pool c.in-Ok-answer-2.ensures in
+    let at_amount = reaches (Terminal ∷ Race ∷ Pool ∷ []) Runner c.in-Ok-answer-3.runner at_runner c.in-Ok-answer-3.ensures in
     let line : Line = record {
       terminal = c.in-Ok.terminal;
       race = c.in-Ok-answer.race;
@@ -84,12 +70,12 @@ returns c =
       amount = c.in-Ok-answer-4.amount;
     } in
     let reads : Reads c.args.row.now line = record {
-      shaped = of.0;
+      shaped = at_terminal.shaped;
       fields = each_field c.args.row.now line
-          (subst (λ r. TerminalSays r line.terminal.0) row_0 c.in-Ok.ensures.says)
-          (subst (λ r. RaceSays r line.race.0) row_1 c.in-Ok-answer.ensures.says)
-          (subst (λ r. PoolSays r line.pool) row_2 c.in-Ok-answer-2.ensures.says)
-          (subst (λ r. RunnerSays r line.runner.0) row_3 c.in-Ok-answer-3.ensures.says)
-          (subst (λ r. AmountSays r line.amount.cents) row_4 c.in-Ok-answer-4.ensures.says);
+          (reads_as Terminal line.terminal at_terminal c.in-Ok.ensures)
+          (reads_as Race line.race at_race c.in-Ok-answer.ensures)
+          (reads_as Pool line.pool at_pool c.in-Ok-answer-2.ensures)
+          (reads_as Runner line.runner at_runner c.in-Ok-answer-3.ensures)
+          (reads_as Amount line.amount at_amount c.in-Ok-answer-4.ensures);
     } in
     record { says = reads; only = λ l h. ap Ok (reads_once line l reads h); first = λ f bad. absurd (excludes bad reads) }
