@@ -44,6 +44,8 @@ fn put(input: &[u8], strip: &mut [Line])
 }
 
 // Puts the lines of an input at the front of a strip and answers how many there are, or refuses and leaves the strip as it was.
+// It answers their number, as the rules ask, and not a slice of them, which would keep the strip lent.
+// How the input is cut is said here and again by each call above that a program may make, so that each contract can be read alone.
 pub fn take_in(input: &[u8], strip: &mut [Line]) -> Result<usize, IntakeFault>
     ensures cut { CutInto input.now (records input.now) }
     ensures taken { MatchResult result (λ n. Taken (records input.now) n strip.old strip.new)
