@@ -10,7 +10,7 @@ use Rattle.shapes.specs.declared.node.Node.TheVariants.{Leaf}
 use Rattle.shapes.specs.Shapes.{Shape, leaf, concat, number, size, depth, occurs, leaf_sizes, widest, end, Started, Alike, restarted}
 use Rattle.shapes.specs.Balance.{LeastPower, Balanced}
 use Rattle.shapes.specs.Packed.{leaves_for, Packed, PackedAs}
-use Rattle.shapes.specs.Nodes.{size_of, depth_of, shape_at, shapes, last_shape, Sound, Stands}
+use Rattle.shapes.specs.Nodes.{node_at, size_of, depth_of, shape_at, shapes, last_shape, Sound, Stands}
 use Rattle.shapes.specs.Trees.{Grown}
 use Rattle.shapes.specs.Building.{Hangs, Restarts, RestartsAt, PacksBehind}
 use Rattle.shapes.specs.Drafts.{parentless, Drafted, Kept}
@@ -64,7 +64,7 @@ pub last_node : (xs : List Node) → Sound xs → (i : ℕ) (x : Node) → i + 1
 last_node xs sound i x last read =
     let some : 0 < length xs = omega arith in
     let at : i ≡ number (last_shape xs) = omega (arith, last_number xs sound some) in
-    let node : x ≡ get_or xs (number (last_shape xs)) (Leaf 0 0) = get_or_read xs i x (omega arith) read (Leaf 0 0) ∙ ap (λ k. get_or xs k (Leaf 0 0)) at in
+    let node : x ≡ node_at xs (number (last_shape xs)) = get_or_read xs i x (omega arith) read (Leaf 0 0) ∙ ap (node_at xs) at in
     let stands = last_stands xs sound some in
     (ap size_of node ∙ stands_size xs (last_shape xs) stands, ap depth_of node ∙ stands_depth xs (last_shape xs) stands)
 
@@ -89,7 +89,7 @@ pub record Under (xs zs : List Node) (i : ℕ) : Type 0 where
   pub hangs : Hangs zs i
   pub stands : Stands zs (last_shape xs)
   pub named : number (last_shape xs) ≡ i
-  pub whole : size_of (get_or zs i (Leaf 0 0)) ≡ size (last_shape xs)
+  pub whole : size_of (node_at zs i) ≡ size (last_shape xs)
 
 pub grown_under : {xs : List Node} → Grown xs → (zs : List Node) (i : ℕ) → zs ≡ xs → i + 1 ≡ length xs → Under xs zs i
 unfolding grown_hangs

@@ -1,6 +1,6 @@
 // What is done to the table of a rope's nodes, from the topmost node down.
 ghost use Rattle.std.specs.Prelude.{◌≡◌, ℕ, ◌+◌, ◌-◌, ◌*◌, ◌^◌, ◌<◌, ◌≤◌, max, length, vec_len, vec_capacity, slice_index_or};
-ghost use Rattle.shapes.specs.Nodes.{size_of};
+ghost use Rattle.shapes.specs.Nodes.{node_at, size_of};
 ghost use Rattle.shapes.specs.Building.{Hangs, FoundAt, RestartsAt, PacksBehind};
 ghost use Rattle.shapes.specs.declared.node.Node.TheVariants.{Leaf};
 
@@ -33,7 +33,7 @@ fn child_at(left: usize, right: usize, before: usize, position: usize) -> (usize
 // Finds the place of a position below a node.
 pub(crate) fn descend(nodes: &[Node], at: usize, position: usize) -> Place
     requires hangs { Hangs nodes.now at }
-    requires within { position < size_of (slice_index_or nodes.now at (Leaf 0 0)) }
+    requires within { position < size_of (node_at nodes.now at) }
     ensures { FoundAt nodes.now at position result.index result.met }
 {
     match nodes[at] {
@@ -63,7 +63,7 @@ fn end_of(start: usize, node: Node) -> usize
 // Starts the leaves below a node anew, where `start` elements stand to their left.
 pub(crate) fn restart_under(nodes: &mut [Node], at: usize, start: usize)
     requires hangs { Hangs nodes.old at }
-    requires fits { start + size_of (slice_index_or nodes.old at (Leaf 0 0)) < 2 ^ 64 }
+    requires fits { start + size_of (node_at nodes.old at) < 2 ^ 64 }
     ensures { RestartsAt at start nodes.old nodes.new }
 {
     match nodes[at] {
