@@ -1,8 +1,7 @@
 // What is done to the table of a rope's nodes, from the topmost node down.
-ghost use Rattle.std.specs.Prelude.{◌≡◌, ℕ, ◌+◌, ◌-◌, ◌*◌, ◌^◌, ◌<◌, ◌≤◌, max, length, vec_len, vec_capacity, slice_index_or};
+ghost use Rattle.std.specs.Prelude.{◌≡◌, ℕ, ◌+◌, ◌-◌, ◌*◌, ◌^◌, ◌<◌, ◌≤◌, max, length, vec_len, vec_capacity};
 ghost use Rattle.shapes.specs.Nodes.{node_at, size_of};
 ghost use Rattle.shapes.specs.Building.{Hangs, FoundAt, RestartsAt, PacksBehind};
-ghost use Rattle.shapes.specs.declared.node.Node.TheVariants.{Leaf};
 
 use shapes::{Node, concat_node};
 
@@ -43,10 +42,10 @@ pub(crate) fn descend(nodes: &[Node], at: usize, position: usize) -> Place
         },
         Node::Concat { left, right, .. } => {
             let (child, below) = child_at(left, right, nodes[left].size(), position);
-            let Place { index, met } = descend(nodes, child, below);
+            let place = descend(nodes, child, below);
             Place {
-                index,
-                met: met + 1,
+                met: place.met + 1,
+                ..place
             }
         }
     }

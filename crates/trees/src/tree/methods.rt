@@ -1,11 +1,10 @@
 // What can be done with a tree: make it, ask it, pack it, start its leaves anew.
-ghost use Rattle.std.specs.Prelude.{◌≡◌, ◌+◌, ◌-◌, ◌*◌, ◌<◌, ◌≤◌, [], ◌∷◌, length, IfOk, vec_capacity, MatchBool, MatchOption, MatchResult};
-ghost use Rattle.base.specs.Refusals.{Refuses, Passes};
+ghost use Rattle.std.specs.Prelude.{◌≡◌, ◌+◌, ◌<◌, ◌≤◌, [], ◌∷◌, length, IfOk, OnErr, MatchBool, MatchOption};
+ghost use Rattle.base.specs.Refusals.{Answered};
 ghost use Rattle.shapes.specs.Shapes.{leaf, number, size, depth, end, reading, EndsWithin, TooFew, Reaches, Started, Alike};
 ghost use Rattle.shapes.specs.Places.{FoundOnly};
 ghost use Rattle.shapes.specs.Packed.{leaves_for, PackedAs};
 ghost use Rattle.shapes.specs.Nodes.{last_shape, size_of, depth_of};
-ghost use Rattle.shapes.specs.Trees.{Grown};
 ghost use Rattle.shapes.specs.declared.node.Node.TheVariants.{Leaf};
 ghost use Rattle.shelves.specs.Shelves.{held};
 ghost use Rattle.trees.specs.Calls.{get_asks, ItemAt, ReadsAsItLies, pack_asks};
@@ -19,15 +18,6 @@ use shapes::Node;
 use shelves::Shelf;
 use std::alloc::{AllocError, Global};
 
-// A table of one empty leaf, with room for the most nodes.
-fn one_leaf(heap: Global) -> Result<Vec<Node>, AllocError>
-    ensures { IfOk result (λ v. (v.items ≡ Leaf 0 0 ∷ []) × (1023 ≤ vec_capacity v)) }
-{
-    let mut nodes = Vec::with_capacity(heap, MOST_NODES)?;
-    nodes.push_reserved(Node::Leaf { start: 0, size: 0 });
-    Ok(nodes)
-}
-
 // How many leaves the packed tree of some elements has.
 fn leaves_for(elements: usize) -> usize
     requires { elements ≤ 32768 }
@@ -36,47 +26,13 @@ fn leaves_for(elements: usize) -> usize
     ((elements + LEAF - 1) / LEAF).max(1)
 }
 
-// Fills a table with the packed tree of some elements.
-fn pack_all(nodes: &mut Vec<Node>, elements: usize)
-    requires room { 1023 ≤ vec_capacity nodes.old }
-    requires small { elements ≤ 32768 }
-    ensures grown { Grown nodes.new.items }
-    ensures packed { PackedAs elements (last_shape nodes.new.items) }
-    ensures capacity { vec_capacity nodes.new ≡ vec_capacity nodes.old }
-{
-    nodes.clear();
-    let leaves = leaves_for(elements);
-    pack_under(nodes, 0, elements, leaves);
-}
-
-// Starts all leaves of a table anew.
-fn restart_all(nodes: &mut Vec<Node>)
-    requires { Grown nodes.old.items }
-    ensures grown { Grown nodes.new.items }
-    ensures alike { Alike (last_shape nodes.old.items) (last_shape nodes.new.items) }
-    ensures started { Started 0 (last_shape nodes.new.items) }
-    ensures capacity { vec_capacity nodes.new ≡ vec_capacity nodes.old }
-{
-    let root = nodes.len() - 1;
-    restart_under(nodes.as_mut_slice(), root, 0);
-}
-
-// Fills a table with the nodes of another.
-fn refill(nodes: &mut Vec<Node>, source: &[Node])
-    requires { length source.now ≤ vec_capacity nodes.old }
-    ensures items { nodes.new.items ≡ source.now }
-    ensures capacity { vec_capacity nodes.old ≤ vec_capacity nodes.new }
-{
-    nodes.clear();
-    let _ = nodes.extend_from_slice(source);
-}
-
 impl Tree {
     // A tree of one empty leaf.
     pub fn new(heap: Global) -> Result<Tree, AllocError>
         ensures { IfOk result (λ t. tree_nodes t ≡ Leaf 0 0 ∷ []) }
     {
-        let nodes = one_leaf(heap)?;
+        let mut nodes = Vec::with_capacity(heap, MOST_NODES)?;
+        nodes.push_reserved(Node::Leaf { start: 0, size: 0 });
         Ok(Tree { nodes })
     }
 
@@ -128,23 +84,23 @@ impl Tree {
 
     // Where a position lies on the strip, and how many nodes are met on the way down to it.
     pub fn place(&self, position: usize) -> Option<Place>
-        ensures { MatchOption result (size (tree_shape self.now) ≤ position) (λ s. FoundOnly (tree_shape self.now) position s.index s.met) }
+        ensures { MatchOption result
+            (size (tree_shape self.now) ≤ position)
+            (λ s. FoundOnly (tree_shape self.now) position s.index s.met) }
     {
-        if position >= self.len() {
-            return None;
-        }
-        Some(self.find(position))
+        (position < self.len()).then(|| self.find(position))
     }
 
     // Whether every leaf ends within the elements of a shelf. That is so just when it has as many as the tree.
     pub fn fits<T>(&self, shelf: &Shelf<T>) -> bool
-        ensures count { MatchBool result (size (tree_shape self.now) ≤ length (held shelf.now)) (length (held shelf.now) < size (tree_shape self.now)) }
-        ensures ends { MatchBool result (EndsWithin (length (held shelf.now)) (tree_shape self.now)) (TooFew (length (held shelf.now)) (tree_shape self.now)) }
+        ensures count { MatchBool result
+            (size (tree_shape self.now) ≤ length (held shelf.now))
+            (length (held shelf.now) < size (tree_shape self.now)) }
+        ensures ends { MatchBool result
+            (EndsWithin (length (held shelf.now)) (tree_shape self.now))
+            (TooFew (length (held shelf.now)) (tree_shape self.now)) }
     {
-        if shelf.count() < self.len() {
-            return false;
-        }
-        true
+        self.len() <= shelf.count()
     }
 
     // The element at a position, from elements that are as many as the tree has at least.
@@ -153,16 +109,15 @@ impl Tree {
         ensures item { ItemAt elements.now (tree_shape self.now) position result }
         ensures whole { ReadsAsItLies elements.now (tree_shape self.now) }
     {
-        match self.place(position) {
-            Some(Place { index, met: _ }) => Some(elements[index]),
-            None => None,
-        }
+        let Place { index, .. } = self.place(position)?;
+        Some(elements[index])
     }
 
     // The element at a position, from a shelf: the one that is read there, leaves from left to right.
     // Where the leaves start as a packed tree's, the whole shelf is read as it lies.
     pub fn get<T: Copy>(&self, shelf: &Shelf<T>, position: usize) -> Result<Option<T>, Refusal>
-        ensures item { MatchResult result (λ o. Passes (get_asks (held shelf.now) (tree_shape self.now)) × ItemAt (held shelf.now) (tree_shape self.now) position o) (λ e. Refuses (get_asks (held shelf.now) (tree_shape self.now)) e) }
+        ensures item { Answered (get_asks (held shelf.now) (tree_shape self.now)) result
+            (ItemAt (held shelf.now) (tree_shape self.now) position) }
         ensures whole { ReadsAsItLies (held shelf.now) (tree_shape self.now) }
     {
         if !self.fits(shelf) {
@@ -174,12 +129,15 @@ impl Tree {
     // Makes this the packed tree of some elements.
     pub fn pack(&mut self, elements: usize) -> Result<(), Refusal>
         ensures example { Packed129 }
-        ensures packed { MatchResult result (λ _. Passes (pack_asks elements) × PackedAs elements (tree_shape self.new)) (λ e. Refuses (pack_asks elements) e × (self.new ≡ self.old)) }
+        ensures packed { Answered (pack_asks elements) result (λ _. PackedAs elements (tree_shape self.new)) }
+        ensures unchanged { OnErr result (self.new ≡ self.old) }
     {
         if elements > MOST_ELEMENTS {
             return Err(Refusal::Space);
         }
-        pack_all(&mut self.nodes, elements);
+        let nodes = &mut self.nodes;
+        nodes.clear();
+        pack_under(nodes, 0, elements, leaves_for(elements));
         Ok(())
     }
 
@@ -188,14 +146,16 @@ impl Tree {
         ensures alike { Alike (tree_shape self.old) (tree_shape self.new) }
         ensures started { Started 0 (tree_shape self.new) }
     {
-        restart_all(&mut self.nodes);
+        let root = self.root();
+        restart_under(&mut self.nodes, root, 0);
     }
 
     // Makes this the tree of these nodes.
     pub fn copy_nodes(&mut self, source: TreeNodes)
         ensures { tree_nodes self.new ≡ source.entry.nodes.now }
     {
-        refill(&mut self.nodes, source.nodes);
+        self.nodes.clear();
+        let _ = self.nodes.extend_from_slice(source.nodes);
     }
 
     // Makes this the same tree as another.
