@@ -98,11 +98,6 @@ grown_under {xs} g zs i table last =
     subst (λ us. Under xs us i) (sym table) (subst (Under xs xs) at
     (record { hangs = grown_hangs g; stands = grown_stands g; named = grown_number g; whole = hangs_size (grown_hangs g) }))
 
-pub restarts_root : {xs : List Node} (zs ys : List Node) (i : ℕ) → zs ≡ xs → i + 1 ≡ length xs → RestartsAt i 0 zs ys → RestartsAt (length xs - 1) 0 xs ys
-restarts_root {xs} zs ys i table last h =
-    let at : i ≡ length xs - 1 = omega arith in
-    subst (λ us. RestartsAt (length xs - 1) 0 us ys) table (subst (λ k. RestartsAt k 0 zs ys) at h)
-
 -- ---- packed trees
 
 top : List ℕ → ℕ
@@ -130,7 +125,10 @@ packed_narrow k t p =
     let m = leaves_for k - 1 in
     omega (arith, widest_top t, ap top p.full, top_append (replicate m 64) ((k - 64 * m) ∷ []), top_full m)
 
-module _ {k : ℕ} {xs : List Node} (p : PacksBehind 0 k (leaves_for k) [] xs) (small : k ≤ 32768) where
+module _ {k m : ℕ} {was xs : List Node} (packs : PacksBehind 0 k m was xs) (none : was ≡ []) (leaves : m ≡ leaves_for k) (small : k ≤ 32768) where
+  p : PacksBehind 0 k (leaves_for k) [] xs
+  p = subst (λ us. PacksBehind 0 k (leaves_for k) us xs) none (subst (λ n. PacksBehind 0 k n was xs) leaves packs)
+
   packed : Packed k p.shape
   packed = packs_all k xs p
 
@@ -154,36 +152,33 @@ module _ {k : ℕ} {xs : List Node} (p : PacksBehind 0 k (leaves_for k) [] xs) (
 
 -- ---- leaves started anew
 
-module _ {xs ys : List Node} (g : Grown xs) (restarts : RestartsAt (length xs - 1) 0 xs ys) where
-  t : Shape
-  t = last_shape xs
+pub record Anew (xs ys : List Node) : Type 0 where
+  pub grown : Grown ys
+  pub alike : Alike (last_shape xs) (last_shape ys)
+  pub started : Started 0 (last_shape ys)
 
-  r : Restarts t 0 xs ys
-  unfolding t
-  r = restarts (last_shape xs) (grown_stands g) (grown_number g)
-
-  anew : Holds ys (restarted 0 t)
-  unfolding t
-  anew = record {
-    stands = r.stands;
-    last = omega (arith, restarted_number 0 t, grown_number g, r.long, g.some);
-    few = omega (arith, r.long, g.few);
-    once = λ k lt. restarted_occurs k 0 t ∙ g.rooted k (omega (arith, r.long));
-    balanced = λ k power. omega (arith, restarted_depth 0 t, g.balanced k (subst (λ n. LeastPower n k) (restarted_size 0 t) power));
-    small = omega (arith, restarted_size 0 t, g.small);
-    narrow = omega (arith, restarted_widest 0 t, g.narrow);
-    ended = started_end 0 (restarted 0 t) (restarted_started 0 t) ∙ omega arith;
-  }
-
-  pub grown_restarted : Grown ys
-  grown_restarted = holds_grown anew
-
-  pub restarted_like : Alike (last_shape xs) (last_shape ys)
-  unfolding t
-  restarted_like = subst (Alike t) (sym (holds_shape anew)) (restarted_alike 0 t)
-
-  pub restarted_from_0 : Started 0 (last_shape ys)
-  restarted_from_0 = subst (Started 0) (sym (holds_shape anew)) (restarted_started 0 t)
+-- the table zs is xs, and i the number of its last node
+pub grown_anew : {xs : List Node} → Grown xs → (zs ys : List Node) (i : ℕ) → zs ≡ xs → i + 1 ≡ length xs → RestartsAt i 0 zs ys → Anew xs ys
+grown_anew {xs} g zs ys i table last restarts =
+    let t = last_shape xs in
+    let under = grown_under g zs i table last in
+    let r : Restarts t 0 zs ys = restarts t under.stands under.named in
+    let long : length ys ≡ length xs = r.long ∙ ap length table in
+    let anew : Holds ys (restarted 0 t) = record {
+      stands = r.stands;
+      last = omega (arith, restarted_number 0 t, grown_number g, g.some);
+      few = omega (arith, g.few);
+      once = λ k lt. restarted_occurs k 0 t ∙ g.rooted k (omega arith);
+      balanced = λ k power. omega (arith, restarted_depth 0 t, g.balanced k (subst (λ n. LeastPower n k) (restarted_size 0 t) power));
+      small = omega (arith, restarted_size 0 t, g.small);
+      narrow = omega (arith, restarted_widest 0 t, g.narrow);
+      ended = started_end 0 (restarted 0 t) (restarted_started 0 t) ∙ omega arith;
+    } in
+    record {
+      grown = holds_grown anew;
+      alike = subst (Alike t) (sym (holds_shape anew)) (restarted_alike 0 t);
+      started = subst (Started 0) (sym (holds_shape anew)) (restarted_started 0 t);
+    }
 
 -- ---- sealed drafts
 

@@ -104,6 +104,7 @@ impl Tree {
     }
 
     // The element at a position, from elements that are as many as the tree has at least.
+    #[tactic(auto, using(shapes::proofs::Reading::started_whole))]
     fn item<T: Copy>(&self, elements: &[T], position: usize) -> Option<T>
         requires { size (tree_shape self.now) ≤ length elements.now }
         ensures item { ItemAt elements.now (tree_shape self.now) position result }
@@ -127,6 +128,7 @@ impl Tree {
     }
 
     // Makes this the packed tree of some elements.
+    #[tactic(auto, using(crate::proofs::Worked::packed_129))]
     pub fn pack(&mut self, elements: usize) -> Result<(), Refusal>
         ensures example { Packed129 }
         ensures packed { Answered (pack_asks elements) result (λ _. PackedAs elements (tree_shape self.new)) }

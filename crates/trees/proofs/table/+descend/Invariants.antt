@@ -1,6 +1,4 @@
-use Rattle.std.proofs.Common.{get_or}
 use Rattle.shapes.specs.Nodes.{node_at, depth_of}
-use Rattle.shapes.specs.declared.node.Node.TheVariants.{Leaf}
 use Rattle.trees.proofs.table.+descend.Given as goal
 
 -- the depth of the node falls

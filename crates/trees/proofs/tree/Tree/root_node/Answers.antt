@@ -5,6 +5,6 @@ use Rattle.trees.proofs.tree.Tree.root_node.Goals as goal
 
 pub returns : goal.returns
 returns c =
-    let t = c.args.self.now in
-    let both = last_node _ t.sound _ _ c.root.ensures c.index.ensures in
-    record { size = both.0; depth = both.1; reaches = reaches_end _ _ (t.ended ∙ sym both.0) }
+    let g = c.args.self.now.grown in
+    let both = last_node _ g.sound _ _ c.root.ensures c.index.ensures in
+    record { size = both.0; depth = both.1; reaches = reaches_end _ _ (g.ended ∙ sym both.0) }
