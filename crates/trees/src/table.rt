@@ -82,7 +82,6 @@ pub(crate) fn pack_under(nodes: &mut Vec<Node>, start: usize, size: usize, leave
     requires most { size ≤ 64 * leaves }
     requires fits { start + size ≤ 32768 }
     requires room { vec_len nodes.old + 2 * leaves ≤ vec_capacity nodes.old + 1 }
-    requires few { vec_capacity nodes.old < 2 ^ 63 }
     ensures packs { PacksBehind start size leaves nodes.old.items nodes.new.items }
     ensures len { vec_len nodes.new + 1 ≡ vec_len nodes.old + 2 * leaves }
     ensures capacity { vec_capacity nodes.new ≡ vec_capacity nodes.old }
@@ -98,8 +97,6 @@ pub(crate) fn pack_under(nodes: &mut Vec<Node>, start: usize, size: usize, leave
     let left = nodes.len() - 1;
     pack_under(nodes, start + held, size - held, on_right);
     let right = nodes.len() - 1;
-    let Some(parent) = concat_node(nodes.as_slice(), left, right) else {
-        unreachable()
-    };
+    let parent = concat_node(nodes, left, right).unwrap();
     nodes.push_reserved(parent);
 }

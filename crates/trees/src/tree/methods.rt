@@ -40,7 +40,7 @@ impl Tree {
     pub fn nodes(&self) -> &[Node]
         ensures { result.now ≡ tree_nodes self.now }
     {
-        self.nodes.as_slice()
+        &self.nodes
     }
 
     // The number of the root: the last node is the root.
