@@ -205,12 +205,6 @@ module _ {ts : List Shape} (d : Drafted ts) (t : Shape) (root : parentless ts �
   unfolding below
   root_once k lt = over_root (occurs k) ◌+◌ sums ts t root ∙ occurs_over k d ∙ ap {B = ℕ} (λ b. cond b 1 0) (lt-ltb k (length ts) lt)
 
-  pub root_at_most_once : (k : ℕ) → occurs k t ≤ 1
-  unfolding below
-  root_at_most_once k =
-      let is = over_root (occurs k) ◌+◌ sums ts t root ∙ occurs_over k d in
-      ⊎_elim (λ lt. omega (arith, root_once k lt)) (λ ge. omega (arith, is, ap {B = ℕ} (λ b. cond b 1 0) (le-ltb k (length ts) ge))) (cases_lt k (length ts))
-
 -- ---- the last node is the root
 
 last_kept : (us : List Shape) (s : Shape) → has_parent (us ++ (s ∷ [])) (number s) ≡ false → length (parentless (us ++ (s ∷ []))) ≡ 1 → parentless (us ++ (s ∷ [])) ≡ s ∷ []

@@ -134,18 +134,6 @@ hangs_within {xs} {at} h = omega (arith, stands_root xs h.shape h.stands, h.name
 pub hangs_size : {xs : List Node} {at : ℕ} → (h : Hangs xs at) → size_of (node_at xs at) ≡ size h.shape
 hangs_size {xs} {at} h = subst (λ k. size_of (node_at xs k) ≡ size h.shape) h.named (stands_size xs h.shape h.stands)
 
-restarts_leaf : (xs : List Node) (at s z n : ℕ) → Stands xs (leaf at s z) → Restarts (leaf at s z) n xs (set xs at (Leaf n z))
-restarts_leaf xs at s z n h = record {
-  stands = (omega (arith, length-set xs at (Leaf n z), h.0), get_or-set_same xs at (Leaf n z) (Leaf 0 0) h.0);
-  others = λ k none. get_or-set_other xs at k (Leaf n z) (Leaf 0 0) (λ e. omega (arith, right_here at, subst (λ j. same j at ≡ 0) e none));
-  long = length-set xs at (Leaf n z);
-}
-
-pub leaf_restarts : {xs : List Node} {at : ℕ} → (h : Hangs xs at) (s z n : ℕ) → node_at xs at ≡ Leaf s z → RestartsAt at n xs (set xs at (Leaf n z))
-leaf_restarts {xs} {at} h s z n e t stands named =
-    let is : t ≡ leaf at s z = stands_only xs t h.shape stands h.stands (named ∙ sym h.named) ∙ hangs_leaf h e in
-    subst (λ u. Restarts u n xs (set xs at (Leaf n z))) (sym is) (restarts_leaf xs at s z n (subst (Stands xs) is stands))
-
 -- both children are started anew, the right one behind the elements of the left
 module _ {xs : List Node} {at left right : ℕ} (parts : Parts xs at left right) (ys : List Node) (n : ℕ) (first : RestartsAt left n xs ys) where
   l : Shape

@@ -6,7 +6,7 @@ use Rattle.trees.proofs.table.+restart_under.Goals as goal
 pub end_of-behind-requires : goal.end_of-behind-requires
 end_of-behind-requires t c =
     let parts = hangs_concat c.requires.hangs c.in-Concat.is in
-    omega (arith, parts.left_size, parts.whole_size, c.requires.fits)
+    omega (arith, parts.whole_size, parts.left_size, c.requires.fits)
 
 pub restart_under-requires : goal.restart_under-requires
 restart_under-requires t c =
