@@ -230,8 +230,8 @@ last_root (a_concat {ts} l r d left right other few) one =
 
 -- ---- the flags that a draft keeps
 
-pub flags_at : (ts : List Shape) → Listed ts → (k : ℕ) → k < length ts → get_or (parent_flags ts) k false ≡ has_parent ts k
-flags_at ts all k lt = get_or-map (λ t. has_parent ts (number t)) ts k (leaf (suc k) 0 0) false lt ∙ ap (has_parent ts) (listed_number ts all k lt)
+pub flags_at : (b : Bool) (ts : List Shape) → Listed ts → (k : ℕ) → k < length ts → get_or (parent_flags ts) k b ≡ has_parent ts k
+flags_at b ts all k lt = get_or-map (λ t. has_parent ts (number t)) ts k (leaf (suc k) 0 0) b lt ∙ ap (has_parent ts) (listed_number ts all k lt)
 
 pub flags_leaf : {ts : List Shape} → Drafted ts → (n : ℕ) → parent_flags (ts ++ (next_leaf ts n ∷ [])) ≡ parent_flags ts ++ (false ∷ [])
 flags_leaf {ts} d n =
@@ -261,7 +261,7 @@ marked_flags ts all l r left right = ext_get_or false (map R ts) (set (set (pare
         (λ er. or_right (has_parent ts k || eqb k l) (eqb k r) (eq-eqb k r er) ∙ sym (ap (λ j. get_or (set (set (parent_flags ts) l true) r true) j false) er ∙ get_or-set_same (set (parent_flags ts) l true) r true false (omega (arith, flagged, length-set (parent_flags ts) l true))))
         (λ nr. ap (λ b. (has_parent ts k || eqb k l) || b) (ne_eqb k r nr) ∙ or_false (has_parent ts k || eqb k l) ∙ ⊎_elim
         (λ el. or_right (has_parent ts k) (eqb k l) (eq-eqb k l el) ∙ sym (get_or-set_other (set (parent_flags ts) l true) r k true false nr ∙ ap (λ j. get_or (set (parent_flags ts) l true) j false) el ∙ get_or-set_same (parent_flags ts) l true false (omega (arith, flagged))))
-        (λ nl. ap (λ b. has_parent ts k || b) (ne_eqb k l nl) ∙ or_false (has_parent ts k) ∙ sym (get_or-set_other (set (parent_flags ts) l true) r k true false nr ∙ get_or-set_other (parent_flags ts) l k true false nl ∙ flags_at ts all k lt))
+        (λ nl. ap (λ b. has_parent ts k || b) (ne_eqb k l nl) ∙ or_false (has_parent ts k) ∙ sym (get_or-set_other (set (parent_flags ts) l true) r k true false nr ∙ get_or-set_other (parent_flags ts) l k true false nl ∙ flags_at false ts all k lt))
         (cases_eq k l))
         (cases_eq k r)
 

@@ -1,7 +1,8 @@
-use Rattle.std.proofs.Common.{not, count_by, ap, ◌∙◌}
-use Rattle.shapes.proofs.Keeping.{kept_count}
-use Rattle.drafts.proofs.Drafts.{draft_kept}
 use Rattle.drafts.proofs.draft.Draft.count_parentless.Goals as goal
+use Rattle.std.proofs.Common.{◌≡◌, not, count_by, ◌∙◌, rules}
+use Rattle.shapes.proofs.Keeping.{kept_count}
 
 pub returns : goal.returns
-returns c = c.count_unset.ensures ∙ ap (count_by not) c.as_slice.ensures.value ∙ kept_count (draft_kept c.args.self.now)
+returns c =
+    let count : c.count.result ≡ count_by not c.args.self.now.parented.items = search rules in
+    count ∙ kept_count c.args.self.now.kept
