@@ -1,8 +1,7 @@
 -- The tables that are a tree's: a single leaf, a packed tree, a tree whose leaves were started anew, a sealed draft. Assumes nothing.
 use Rattle.std.proofs.Common.{◌≡◌, ℕ, zero, suc, ◌+◌, ◌-◌, ◌*◌, ◌<◌, ◌≤◌, max, Bool, List, [], ◌∷◌, ◌++◌, length, get_or, replicate, sym, ap, ◌∙◌, subst, ⊎_elim, arith}
 use mathlib.Core.Logic.{∥∥₁_elim}
-use native.Mathlib.Bridge.{le_prop}
-use native.Mathlib.Nat.{ℕ_set}
+use Rattle.std.proofs.Props.{props}
 use Rattle.std.proofs.lemmas.List.{get_or_read}
 use Rattle.std.proofs.lemmas.Bool.{cases_lt}
 use Rattle.shapes.specs.declared.node.Node.{Node}
@@ -13,7 +12,7 @@ use Rattle.shapes.specs.Packed.{leaves_for, Packed, PackedAs}
 use Rattle.shapes.specs.Nodes.{node_at, size_of, depth_of, shape_at, shapes, last_shape, Sound, Stands}
 use Rattle.shapes.specs.Trees.{Grown}
 use Rattle.shapes.specs.Building.{Hangs, Restarts, RestartsAt, PacksBehind}
-use Rattle.shapes.specs.Drafts.{parentless, Drafted, Kept}
+use Rattle.shapes.specs.Drafts.{parentless, Kept}
 use Rattle.shapes.proofs.Tables.{length_shapes, sound_listed, listed_number, stands_at, stands_shape, stands_sound}
 use Rattle.shapes.proofs.Reading.{started_end, restarted_size, restarted_depth, restarted_number, restarted_widest, restarted_occurs, restarted_started, restarted_alike}
 use Rattle.shapes.proofs.Hanging.{occurs_within, stands_size, stands_depth, hangs_size}
@@ -182,45 +181,6 @@ grown_anew {xs} g zs ys i table last restarts =
 
 -- ---- sealed drafts
 
-grown_drafted : {xs : List Node} → Sound xs → Drafted (shapes xs) → parentless (shapes xs) ≡ last_shape xs ∷ [] → 0 < length xs → Balanced (last_shape xs) → Grown xs
-grown_drafted {xs} sound d root some balanced = record {
-  some = some;
-  few = omega (arith, drafted_few d, length_shapes xs);
-  sound = sound;
-  rooted = λ k lt. root_once d (last_shape xs) root k (omega (arith, length_shapes xs));
-  balanced = balanced;
-  small = omega (arith, root_size d (last_shape xs) root, drafted_small d);
-  narrow = narrow_at d (length xs - 1) (omega (arith, length_shapes xs));
-  ended = root_end d (last_shape xs) root;
-}
-
-one_node : (ts : List Shape) → length (parentless ts) ≡ 1 → 0 < length ts
-one_node [] e = absurd (omega arith)
-one_node (u ∷ us) e = omega arith
-
--- a draft that is kept has a node where one is parentless, and as many elements as fit
-module _ {xs : List Node} {fs : List Bool} (k : Kept xs fs) (one : length (parentless (shapes xs)) ≡ 1) where
-  pub sealed_some : 0 < length xs
-  sealed_some = omega (arith, one_node (shapes xs) one, length_shapes xs)
-
-  sealed_small : size (last_shape xs) ≤ 32768
-  sealed_small = ∥∥₁_elim k.drafted le_prop (λ d. omega (arith, root_size d (last_shape xs) (kept_root k one), drafted_small d))
-
-  -- balanced, it is a tree
-  pub grown_sealed : Balanced (last_shape xs) → Grown xs
-  grown_sealed balanced =
-      let g = λ (d : Drafted (shapes xs)). grown_drafted k.sound d (kept_root k one) sealed_some balanced in
-      record {
-        some = sealed_some;
-        few = ∥∥₁_elim k.drafted le_prop (λ d. (g d).few);
-        sound = k.sound;
-        rooted = λ j lt. ∥∥₁_elim k.drafted (ℕ_set _ _) (λ d. (g d).rooted j lt);
-        balanced = balanced;
-        small = sealed_small;
-        narrow = ∥∥₁_elim k.drafted le_prop (λ d. (g d).narrow);
-        ended = ∥∥₁_elim k.drafted (ℕ_set _ _) (λ d. (g d).ended);
-      }
-
 -- a shape is balanced by the least power of its size
 pub balanced_by : (t : Shape) (k : ℕ) → LeastPower (size t) k → depth t ≤ k + 2 → Balanced t
 balanced_by t k power low j other = omega (arith, power.least j other.enough)
@@ -231,3 +191,39 @@ root_balanced ts t root balanced u other =
     let both : t ∷ [] ≡ u ∷ [] = sym root ∙ other in
     let is : t ≡ u = cc both in
     subst Balanced is balanced
+
+one_node : (ts : List Shape) → length (parentless ts) ≡ 1 → 0 < length ts
+one_node [] e = absurd (omega arith)
+one_node (u ∷ us) e = omega arith
+
+-- a draft that is kept, with one parentless node: a tree where that is balanced
+module _ {xs : List Node} {fs : List Bool} (k : Kept xs fs) (one : length (parentless (shapes xs)) ≡ 1) where
+  pub sealed_some : 0 < length xs
+  sealed_some = omega (arith, one_node (shapes xs) one, length_shapes xs)
+
+  pub grown_sealed : Balanced (last_shape xs) → Grown xs
+  grown_sealed balanced =
+      let t = last_shape xs in
+      let root = kept_root k one in
+      ∥∥₁_elim k.drafted (hlevel props)
+      (λ d. record {
+        some = sealed_some;
+        few = omega (arith, drafted_few d, length_shapes xs);
+        sound = k.sound;
+        rooted = λ i lt. root_once d t root i (omega (arith, length_shapes xs));
+        balanced = balanced;
+        small = omega (arith, root_size d t root, drafted_small d);
+        narrow = narrow_at d (length xs - 1) (omega (arith, sealed_some, length_shapes xs));
+        ended = root_end d t root;
+      })
+
+  -- what is balanced is told by the least power of the size, where size and depth go by other terms
+  module _ {n deep p : ℕ} (sized : n ≡ size (last_shape xs)) (levels : deep ≡ depth (last_shape xs)) (power : LeastPower n p) where
+    pub sealed_deep : p + 2 < deep → ((t : Shape) → parentless (shapes xs) ≡ t ∷ [] → Balanced t) → ⊥
+    sealed_deep over all = omega (arith, all (last_shape xs) (kept_root k one) p (subst (λ m. LeastPower m p) sized power))
+
+    sealed_last : deep ≤ p + 2 → Balanced (last_shape xs)
+    sealed_last low j other = omega (arith, power.least j (omega (arith, other.enough)))
+
+    pub sealed_grown : deep ≤ p + 2 → ((t : Shape) → parentless (shapes xs) ≡ t ∷ [] → Balanced t) × (Grown xs × (parentless (shapes xs) ≡ last_shape xs ∷ []))
+    sealed_grown low = (root_balanced (shapes xs) (last_shape xs) (kept_root k one) (sealed_last low), (grown_sealed (sealed_last low), kept_root k one))

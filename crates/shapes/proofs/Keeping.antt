@@ -1,8 +1,8 @@
 -- What a draft keeps, and keeps keeping. Assumes nothing.
 use Rattle.std.proofs.Common.{◌≡◌, ℕ, ◌+◌, ◌-◌, ◌<◌, ◌≤◌, Bool, true, false, not, List, [], ◌∷◌, ◌++◌, length, get_or, set, MatchBool, count_by, sym, refl, ap, ◌∙◌, subst, ⊎_elim, arith}
-use mathlib.Core.Bool.{Bool-set}
 use mathlib.Core.List.{is_set}
-use mathlib.Core.Logic.{∥∥₁_elim, ∥∥₁_prop}
+use mathlib.Core.Logic.{∥∥₁_elim}
+use Rattle.std.proofs.Props.{props}
 use native.Mathlib.Bridge.{le_prop}
 use native.Mathlib.Nat.{ℕ_set}
 use Rattle.std.proofs.lemmas.List.{length-map, get_or_past}
@@ -19,9 +19,6 @@ use Rattle.shapes.proofs.Drafting.{drafted_small, pair_small, flags_at, flags_le
 
 shapes_lists : IsSet (List Shape)
 shapes_lists = is_set (shape_set ℕ_set)
-
-flag_lists : IsSet (List Bool)
-flag_lists = is_set Bool-set
 
 pub kept_long : {xs : List Node} {fs : List Bool} → Kept xs fs → length fs ≡ length xs
 kept_long {xs} k = ap length k.flagged ∙ length-map (shapes xs) (λ t. has_parent (shapes xs) (number t)) ∙ length_shapes xs
@@ -58,11 +55,12 @@ leaf_counted xs n z e = sym (ap elements (leaf_shapes xs n z e) ∙ sum_by_push 
 pub kept_leaf : {xs : List Node} {fs : List Bool} → Kept xs fs → (n z : ℕ) → n ≡ elements (shapes xs) → z ≤ 64 → length (shapes xs) < 1023 → elements (shapes xs) + z ≤ 32768 → Kept (xs ++ (Leaf n z ∷ [])) (fs ++ (false ∷ []))
 kept_leaf {xs} {fs} k n z e narrow few small =
     let same = leaf_shapes xs n z e in
-    record {
+    ∥∥₁_elim k.drafted (hlevel props)
+    (λ d. record {
       sound = sound_push xs (Leaf n z) k.sound refl;
-      drafted = ∥∥₁_elim k.drafted ∥∥₁_prop (λ d. ∣ subst Drafted (sym same) (a_leaf z d narrow few small) ∣₁);
-      flagged = ∥∥₁_elim k.drafted (flag_lists _ _) (λ d. ap (λ bs. bs ++ (false ∷ [])) k.flagged ∙ sym (flags_leaf d z) ∙ ap parent_flags (sym same));
-    }
+      drafted = ∣ subst Drafted (sym same) (a_leaf z d narrow few small) ∣₁;
+      flagged = ap (λ bs. bs ++ (false ∷ [])) k.flagged ∙ sym (flags_leaf d z) ∙ ap parent_flags (sym same);
+    })
 
 -- ---- two nodes put together
 
@@ -91,11 +89,13 @@ module _ {xs : List Node} {fs : List Bool} (k : Kept xs fs) (l r : ℕ) (left : 
       ∙ concat_node_of xs (length (shapes xs)) (shape_at (shapes xs) l) (shape_at (shapes xs) r) stands_left stands_right
 
   pub kept_concat : (l ≡ r → ⊥) → length (shapes xs) < 1023 → Kept (xs ++ (concat_node xs l r ∷ [])) (set (set fs l true) r true ++ (false ∷ []))
-  kept_concat other few = record {
-    sound = sound_push xs (concat_node xs l r) k.sound is_node;
-    drafted = ∥∥₁_elim k.drafted ∥∥₁_prop (λ d. ∣ subst Drafted (sym concat_shapes) (a_concat l r d left right other few) ∣₁);
-    flagged = ∥∥₁_elim k.drafted (flag_lists _ _) (λ d. ap (λ bs. set (set bs l true) r true ++ (false ∷ [])) k.flagged ∙ sym (flags_concat d l r left.0 right.0) ∙ ap parent_flags (sym concat_shapes));
-  }
+  kept_concat other few =
+      ∥∥₁_elim k.drafted (hlevel props)
+      (λ d. record {
+        sound = sound_push xs (concat_node xs l r) k.sound is_node;
+        drafted = ∣ subst Drafted (sym concat_shapes) (a_concat l r d left right other few) ∣₁;
+        flagged = ap (λ bs. set (set bs l true) r true ++ (false ∷ [])) k.flagged ∙ sym (flags_concat d l r left.0 right.0) ∙ ap parent_flags (sym concat_shapes);
+      })
 
   -- the node over both stays within bounds
   pub concat_fits : (l ≡ r → ⊥) → length (shapes xs) < 1023 → FitsOver xs l r

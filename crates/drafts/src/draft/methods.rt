@@ -165,7 +165,7 @@ impl Draft {
 
     // The node made last, which is the one without a parent where there is just one.
     fn last_node(&self) -> Node
-        requires { length (parentless (draft_shapes self.now)) ≡ 1 }
+        requires { 0 < length (draft_nodes self.now) }
         ensures size { size_of result ≡ size (last_shape (draft_nodes self.now)) }
         ensures depth { depth_of result ≡ depth (last_shape (draft_nodes self.now)) }
     {
@@ -173,6 +173,7 @@ impl Draft {
     }
 
     // Whether the draft can be sealed.
+    #[tactic(auto, using(crate::proofs::Worked::chains))]
     fn sealable(&self) -> Result<(), Refusal>
         ensures examples { Chains }
         ensures sealable { Answered (seal_asks (draft_shapes self.now)) result (λ _.
