@@ -92,6 +92,7 @@ impl Tree {
     }
 
     // Whether every leaf ends within the elements of a shelf. That is so just when it has as many as the tree.
+    #[tactic(auto, using(shapes::proofs::Reading::reaches_told))]
     pub fn fits<T>(&self, shelf: &Shelf<T>) -> bool
         ensures count { MatchBool result
             (size (tree_shape self.now) ≤ length (held shelf.now))
