@@ -1,21 +1,19 @@
 -- The tables that are a tree's: a single leaf, a packed tree, a tree whose leaves were started anew, a sealed draft. Assumes nothing.
-use Rattle.std.proofs.Common.{◌≡◌, ℕ, zero, suc, ◌+◌, ◌-◌, ◌*◌, ◌<◌, ◌≤◌, max, Bool, List, [], ◌∷◌, ◌++◌, length, get_or, replicate, sym, ap, ◌∙◌, subst, ⊎_elim, arith}
+use Rattle.std.proofs.Common.{◌≡◌, ℕ, zero, suc, ◌+◌, ◌-◌, ◌*◌, ◌<◌, ◌≤◌, max, Bool, List, [], ◌∷◌, ◌++◌, length, replicate, sym, ap, ◌∙◌, subst, ⊎_elim, arith}
 use mathlib.Core.Logic.{∥∥₁_elim}
 use Rattle.std.proofs.Props.{props}
-use Rattle.std.proofs.lemmas.List.{get_or_read}
 use Rattle.std.proofs.lemmas.Bool.{cases_lt}
 use Rattle.shapes.specs.declared.node.Node.{Node}
-use Rattle.shapes.specs.declared.node.Node.TheVariants.{Leaf}
 use Rattle.shapes.specs.Shapes.{Shape, leaf, concat, number, size, depth, occurs, leaf_sizes, widest, end, Started, Alike, restarted}
 use Rattle.shapes.specs.Balance.{LeastPower, Balanced}
 use Rattle.shapes.specs.Packed.{leaves_for, Packed, PackedAs}
-use Rattle.shapes.specs.Nodes.{node_at, size_of, depth_of, shape_at, shapes, last_shape, Sound, Stands}
+use Rattle.shapes.specs.Nodes.{node_at, size_of, shape_at, shapes, last_shape, Sound, Stands}
 use Rattle.shapes.specs.Trees.{Grown}
 use Rattle.shapes.specs.Building.{Hangs, Restarts, RestartsAt, PacksBehind}
 use Rattle.shapes.specs.Drafts.{parentless, Kept}
 use Rattle.shapes.proofs.Tables.{length_shapes, sound_listed, listed_number, stands_at, stands_shape, stands_sound}
 use Rattle.shapes.proofs.Reading.{started_end, restarted_size, restarted_depth, restarted_number, restarted_widest, restarted_occurs, restarted_started, restarted_alike}
-use Rattle.shapes.proofs.Hanging.{occurs_within, stands_size, stands_depth, hangs_size}
+use Rattle.shapes.proofs.Hanging.{occurs_within, hangs_size}
 use Rattle.shapes.proofs.Packing.{numbered_number, numbered_once, packed_size, packed_balanced, packed_as, packs_all, packs_long}
 use Rattle.shapes.proofs.Drafting.{root_size, root_end, root_once, narrow_at, drafted_few, drafted_small}
 use Rattle.shapes.proofs.Keeping.{kept_root}
@@ -57,15 +55,6 @@ last_stands xs sound some = stands_at xs sound (length xs - 1) (omega arith)
 
 pub last_number : (xs : List Node) → Sound xs → 0 < length xs → number (last_shape xs) ≡ length xs - 1
 last_number xs sound some = listed_number (shapes xs) (sound_listed xs sound) (length xs - 1) (omega (arith, length_shapes xs))
-
--- the last node has the size and the depth of the whole
-pub last_node : (xs : List Node) → Sound xs → (i : ℕ) (x : Node) → i + 1 ≡ length xs → x ≡ get_or xs i x → (size_of x ≡ size (last_shape xs)) × (depth_of x ≡ depth (last_shape xs))
-last_node xs sound i x last read =
-    let some : 0 < length xs = omega arith in
-    let at : i ≡ number (last_shape xs) = omega (arith, last_number xs sound some) in
-    let node : x ≡ node_at xs (number (last_shape xs)) = get_or_read xs i x (omega arith) read (Leaf 0 0) ∙ ap (node_at xs) at in
-    let stands = last_stands xs sound some in
-    (ap size_of node ∙ stands_size xs (last_shape xs) stands, ap depth_of node ∙ stands_depth xs (last_shape xs) stands)
 
 -- what stands in a tree
 pub grown_stands : {xs : List Node} → Grown xs → Stands xs (last_shape xs)

@@ -54,12 +54,12 @@ impl Tree {
     fn root_node(&self) -> Node
         ensures size { size_of result ≡ size (tree_shape self.now) }
         ensures depth { depth_of result ≡ depth (tree_shape self.now) }
-        ensures reaches { Reaches (tree_shape self.now) (size_of result) }
     {
         self.nodes[self.root()]
     }
 
     // How many elements the tree has. Its leaves reach just as far on a strip: the largest end of a leaf is the tree's length.
+    #[tactic(auto, using(shapes::proofs::Reading::reaches_end))]
     pub fn len(&self) -> usize
         ensures value { result ≡ size (tree_shape self.now) }
         ensures end { result ≡ end (tree_shape self.now) }

@@ -3,11 +3,6 @@ use Rattle.shapes.specs.Nodes.{size_of, depth_of}
 use Rattle.shapes.proofs.Hanging.{hangs_concat, right_still, right_still_node, concat_restarts}
 use Rattle.trees.proofs.table.+restart_under.Goals as goal
 
-pub end_of-behind-requires : goal.end_of-behind-requires
-end_of-behind-requires t c =
-    let parts = hangs_concat c.requires.hangs c.in-Concat.is in
-    omega (arith, parts.whole_size, parts.left_size, c.requires.fits)
-
 pub restart_under-requires : goal.restart_under-requires
 restart_under-requires t c =
     let parts = hangs_concat c.requires.hangs c.in-Concat.is in

@@ -2,9 +2,6 @@ use Rattle.std.proofs.Common.{sym, ◌∙◌, arith}
 use Rattle.shapes.proofs.Growing.{sealed_some, sealed_deep, sealed_grown}
 use Rattle.drafts.proofs.draft.Draft.sealable.Goals as goal
 
-pub last_node-root-requires : goal.last_node-root-requires
-last_node-root-requires c = sealed_some c.args.self.now.kept (sym c.count_parentless.ensures ∙ c.if-count_parentless-ne1.false)
-
 pub overflow_add-least_power : goal.overflow_add-least_power
 overflow_add-least_power c = omega (arith, c.least_power.ensures.least 64 (omega (arith, c.size.type_inv)))
 
