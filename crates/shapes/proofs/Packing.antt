@@ -2,6 +2,7 @@
 use Rattle.std.proofs.Common.{◌≡◌, ℕ, zero, suc, ◌+◌, ◌-◌, ◌*◌, ◌/◌, ◌^◌, ◌<◌, ◌≤◌, List, [], ◌∷◌, ◌++◌, length, take, drop, replicate, sum, sym, refl, ap, ◌∙◌, subst, ⊎_elim, arith, pow_pos}
 use native.Mathlib.Nat.{pow-succ'}
 use Rattle.std.proofs.lemmas.List.{append_assoc, length-append, length_push, get_or_push, replicate_more, replicate-append-replicate, take_at, drop_at}
+use Rattle.std.proofs.lemmas.List.Folds.{sum_by-replicate}
 use Rattle.std.proofs.lemmas.List.Sums.{sum_by-append, sum_by-cons, sum_by_push}
 use Rattle.std.proofs.lemmas.Bool.{cases_lt, cases_eq}
 use Rattle.shapes.specs.declared.node.Node.{Node}
@@ -18,12 +19,8 @@ sizes_size : (t : Shape) → sum (leaf_sizes t) ≡ size t
 sizes_size (leaf i s n) = omega arith
 sizes_size (concat i l r) = sum_by-append (λ x. x) (leaf_sizes l) (leaf_sizes r) ∙ omega (arith, sizes_size l, sizes_size r)
 
-sum_replicate : (m : ℕ) → sum (replicate m 64) ≡ 64 * m
-sum_replicate zero = refl
-sum_replicate (suc m) = sum_by-cons (λ x. x) 64 (replicate m 64) ∙ omega (arith, sum_replicate m)
-
 pub full_size : (t : Shape) (m x : ℕ) → leaf_sizes t ≡ replicate m 64 ++ (x ∷ []) → size t ≡ 64 * m + x
-full_size t m x full = sym (sizes_size t) ∙ ap sum full ∙ sum_by_push (λ y. y) (replicate m 64) x ∙ omega (arith, sum_replicate m)
+full_size t m x full = sym (sizes_size t) ∙ ap sum full ∙ sum_by_push (λ y. y) (replicate m 64) x ∙ omega (arith, sum_by-replicate (λ y. y) m 64)
 
 pub halved_nodes : (m : ℕ) (t : Shape) → Halved m t → nodes t + 1 ≡ 2 * m
 halved_nodes m (leaf i s n) h = omega arith

@@ -23,7 +23,7 @@ fn leaves_for(elements: usize) -> usize
     requires { elements ≤ 32768 }
     ensures { result ≡ leaves_for elements }
 {
-    ((elements + LEAF - 1) / LEAF).max(1)
+    elements.div_ceil(LEAF).max(1)
 }
 
 impl Tree {
@@ -132,7 +132,8 @@ impl Tree {
     #[tactic(auto, using(crate::proofs::Worked::packed_129))]
     pub fn pack(&mut self, elements: usize) -> Result<(), Refusal>
         ensures example { Packed129 }
-        ensures packed { Answered (pack_asks elements) result (λ _. PackedAs elements (tree_shape self.new)) }
+        ensures packed { Answered (pack_asks elements) result (λ _.
+            PackedAs elements (tree_shape self.new)) }
         ensures unchanged { OnErr result (self.new ≡ self.old) }
     {
         if elements > MOST_ELEMENTS {
