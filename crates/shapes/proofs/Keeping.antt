@@ -29,11 +29,11 @@ kept_small k = ∥∥₁_elim k.drafted le_prop (λ d. drafted_small d)
 pub kept_flag : {xs : List Node} {fs : List Bool} → Kept xs fs → (i : ℕ) → i < length xs → get_or fs i true ≡ has_parent (shapes xs) i
 kept_flag {xs} k i lt = ap (λ bs. get_or bs i true) k.flagged ∙ flags_at true (shapes xs) (sound_listed xs k.sound) i (omega (arith, length_shapes xs))
 
--- what the flag of a node says; where there is no node, there is none
-pub kept_parentless : {xs : List Node} {fs : List Bool} → Kept xs fs → (i : ℕ) → MatchBool (not (get_or fs i true)) (Parentless (shapes xs) i) (Parentless (shapes xs) i → ⊥)
-kept_parentless {xs} {fs} k i = ⊎_elim there (λ ge. rw (get_or_past fs i true (omega (arith, kept_long k))) (λ p. omega (arith, p.0, length_shapes xs))) (cases_lt i (length xs))
+-- what the flag of a node tells; where there is no node, there is none
+pub kept_parentless : (b : Bool) (xs : List Node) (fs : List Bool) (i : ℕ) → Kept xs fs → b ≡ not (get_or fs i true) → MatchBool b (Parentless (shapes xs) i) (Parentless (shapes xs) i → ⊥)
+kept_parentless b xs fs i k is = rw is (⊎_elim there (λ ge. rw (get_or_past fs i true (omega (arith, kept_long k))) (λ p. omega (arith, p.0, length_shapes xs))) (cases_lt i (length xs)))
   where
-    of : (b : Bool) → b ≡ has_parent (shapes xs) i → i < length xs → MatchBool (not b) (Parentless (shapes xs) i) (Parentless (shapes xs) i → ⊥)
+    of : (c : Bool) → c ≡ has_parent (shapes xs) i → i < length xs → MatchBool (not c) (Parentless (shapes xs) i) (Parentless (shapes xs) i → ⊥)
     of true e lt = λ p. both_ways (has_parent (shapes xs) i) p.1 (sym e)
     of false e lt = (omega (arith, length_shapes xs), sym e)
 

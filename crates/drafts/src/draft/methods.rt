@@ -157,6 +157,7 @@ impl Draft {
     }
 
     // How many nodes have no parent.
+    #[tactic(auto, using(shapes::proofs::Keeping::kept_count))]
     fn count_parentless(&self) -> usize
         ensures { result ≡ length (parentless (draft_shapes self.now)) }
     {
