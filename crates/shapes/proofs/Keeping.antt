@@ -62,6 +62,8 @@ kept_leaf {xs} {fs} k n z e narrow few small =
       flagged = ap (λ bs. bs ++ (false ∷ [])) k.flagged ∙ sym (flags_leaf d z) ∙ ap parent_flags (sym same);
     })
 
+pub ruleset leaf_more = (kept_leaf, leaf_shapes, leaf_counted)
+
 -- ---- two nodes put together
 
 module _ {xs : List Node} {fs : List Bool} (k : Kept xs fs) (l r : ℕ) (left : Parentless (shapes xs) l) (right : Parentless (shapes xs) r) where
@@ -110,6 +112,8 @@ module _ {xs : List Node} {fs : List Bool} (k : Kept xs fs) (l r : ℕ) (left : 
         depth = omega (arith, stands_depth xs L stands_left, stands_depth xs R stands_right, depth_number xs L stands_left, depth_number xs R stands_right, (stands_root xs L stands_left).0, (stands_root xs R stands_right).0, length_shapes xs);
       } in
       subst (λ i. FitsOver xs i r) at_left (subst (FitsOver xs (number L)) at_right over)
+
+pub ruleset concat_more = (kept_concat, concat_shapes, concat_counted)
 
 -- ---- a draft that can be sealed
 

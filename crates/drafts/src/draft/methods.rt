@@ -68,6 +68,7 @@ impl Draft {
     }
 
     // How many elements more there is space for.
+    #[tactic(auto, using(shapes::proofs::Keeping::kept_small))]
     fn space(&self) -> usize
         ensures { result + elements_of (draft_shapes self.now) ≡ 32768 }
     {
@@ -84,6 +85,7 @@ impl Draft {
     }
 
     // Adds a leaf for the next elements behind the nodes.
+    #[tactic(auto, using(shapes::proofs::Keeping::leaf_more))]
     fn append_leaf(&mut self, size: usize)
         requires { Passes (leaf_asks (draft_shapes self.old) size) }
         ensures { draft_shapes self.new
@@ -98,6 +100,7 @@ impl Draft {
     }
 
     // The node over two parentless nodes.
+    #[tactic(auto, using(shapes::proofs::Keeping::concat_fits))]
     fn node_over(&self, left: usize, right: usize) -> Node
         requires { Passes (concat_asks (draft_shapes self.now) left right) }
         ensures { result ≡ concat_node (draft_nodes self.now) left right }
@@ -106,6 +109,7 @@ impl Draft {
     }
 
     // Puts two parentless nodes together under a new one behind the nodes.
+    #[tactic(auto, using(shapes::proofs::Keeping::concat_more))]
     fn append_concat(&mut self, left: usize, right: usize)
         requires { Passes (concat_asks (draft_shapes self.old) left right) }
         ensures { draft_shapes self.new
@@ -174,7 +178,7 @@ impl Draft {
     }
 
     // Whether the draft can be sealed.
-    #[tactic(auto, using(crate::proofs::Worked::chains))]
+    #[tactic(auto, using(crate::proofs::Worked::chains, shapes::proofs::Growing::sealed_deep))]
     fn sealable(&self) -> Result<(), Refusal>
         ensures examples { Chains }
         ensures sealable { Answered (seal_asks (draft_shapes self.now)) result (λ _.
