@@ -9,11 +9,13 @@ use Rattle.shapes.specs.Balance.{LeastPower, Balanced}
 use Rattle.shapes.specs.Packed.{leaves_for, Packed, PackedAs}
 use Rattle.shapes.specs.Nodes.{node_at, size_of, shape_at, shapes, last_shape, Sound, Stands}
 use Rattle.shapes.specs.Trees.{Grown}
-use Rattle.shapes.specs.Building.{Hangs, Restarts, RestartsAt, PacksBehind}
+use Rattle.shapes.specs.Building.{Hangs, FoundAt, Restarts, RestartsAt, PacksBehind}
+use Rattle.shapes.specs.Places.{FoundOnly}
 use Rattle.shapes.specs.Drafts.{parentless, Kept}
 use Rattle.shapes.proofs.Tables.{length_shapes, sound_listed, listed_number, stands_at, stands_shape, stands_sound}
 use Rattle.shapes.proofs.Reading.{started_end, restarted_size, restarted_depth, restarted_number, restarted_widest, restarted_occurs, restarted_started, restarted_alike}
 use Rattle.shapes.proofs.Hanging.{occurs_within, hangs_size}
+use Rattle.shapes.proofs.Finding.{found_only}
 use Rattle.shapes.proofs.Packing.{numbered_number, numbered_once, packed_size, packed_balanced, packed_as, packs_all, packs_long}
 use Rattle.shapes.proofs.Drafting.{root_size, root_end, root_once, narrow_at, drafted_few, drafted_small}
 use Rattle.shapes.proofs.Keeping.{kept_root}
@@ -85,6 +87,12 @@ grown_under {xs} g zs i table last =
     let at : length xs - 1 ≡ i = omega arith in
     subst (λ us. Under xs us i) (sym table) (subst (Under xs xs) at
     (record { hangs = grown_hangs g; stands = grown_stands g; named = grown_number g; whole = hangs_size (grown_hangs g) }))
+
+-- what is found below the root is found in the whole
+pub found_under : {xs : List Node} → Grown xs → (zs : List Node) (i p place met : ℕ) → zs ≡ xs → i + 1 ≡ length xs → FoundAt zs i p place met → FoundOnly (last_shape xs) p place met
+found_under {xs} g zs i p place met table last found =
+    let under = grown_under g zs i table last in
+    found_only (last_shape xs) p place met (found (last_shape xs) under.stands under.named)
 
 -- ---- packed trees
 

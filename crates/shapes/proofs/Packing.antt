@@ -3,7 +3,7 @@ use Rattle.std.proofs.Common.{◌≡◌, ℕ, zero, suc, ◌+◌, ◌-◌, ◌*�
 use native.Mathlib.Nat.{pow-succ'}
 use Rattle.std.proofs.lemmas.List.{append_assoc, length-append, length_push, get_or_push, replicate_more, replicate-append-replicate, take_at, drop_at}
 use Rattle.std.proofs.lemmas.List.Folds.{sum_by-replicate}
-use Rattle.std.proofs.lemmas.List.Sums.{sum_by-append, sum_by-cons, sum_by_push}
+use Rattle.std.proofs.lemmas.List.Sums.{sum_by-append, sum_by_push}
 use Rattle.std.proofs.lemmas.Bool.{cases_lt, cases_eq}
 use Rattle.shapes.specs.declared.node.Node.{Node}
 use Rattle.shapes.specs.declared.node.Node.TheVariants.{Leaf}

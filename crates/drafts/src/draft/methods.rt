@@ -34,6 +34,7 @@ fn adopt(parented: &mut Vec<bool>, node: usize)
 
 impl Draft {
     // A draft with no nodes.
+    #[tactic(auto, using(shapes::proofs::Keeping::kept_nothing))]
     pub fn new(heap: Global) -> Result<Draft, AllocError>
         ensures { IfOk result (λ d. draft_nodes d ≡ []) }
     {

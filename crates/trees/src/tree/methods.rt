@@ -75,6 +75,7 @@ impl Tree {
     }
 
     // Where a position below the length lies.
+    #[tactic(auto, using(shapes::proofs::Growing::grown_under))]
     fn find(&self, position: usize) -> Place
         requires { position < size (tree_shape self.now) }
         ensures { FoundOnly (tree_shape self.now) position result.index result.met }
@@ -146,6 +147,7 @@ impl Tree {
     }
 
     // Starts the leaves anew, each at the number of elements to its left; nodes and shape stay.
+    #[tactic(auto, using(shapes::proofs::Growing::grown_under))]
     pub fn restart(&mut self)
         ensures alike { Alike (tree_shape self.old) (tree_shape self.new) }
         ensures started { Started 0 (tree_shape self.new) }
