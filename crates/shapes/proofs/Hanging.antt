@@ -1,11 +1,11 @@
 -- Shapes that stand in a table whose nodes change. Assumes nothing.
-use Rattle.std.proofs.Common.{◌≡◌, ℕ, ◌+◌, ◌^◌, ◌<◌, ◌≤◌, max, cond, Option, Some, None, MatchOption, List, ◌++◌, length, sym, refl, ap, ◌∙◌, subst, arith}
+use Rattle.std.proofs.Common.{◌≡◌, ℕ, ◌+◌, ◌^◌, ◌<◌, ◌≤◌, max, cond, List, ◌++◌, length, sym, refl, ap, ◌∙◌, subst, arith}
 use Rattle.std.proofs.lemmas.List.{length-append, get_or_append_left}
 use Rattle.std.proofs.lemmas.Bool.{eq-eqb}
 use Rattle.shapes.specs.declared.node.Node.{Node}
 use Rattle.shapes.specs.declared.node.Node.TheVariants.{Leaf, Concat}
 use Rattle.shapes.specs.Shapes.{Shape, leaf, concat, number, size, depth, same, occurs, end, restarted}
-use Rattle.shapes.specs.Nodes.{node_at, node_of, size_of, depth_of, concat_node, FitsOver, shape_at, shapes, Stands}
+use Rattle.shapes.specs.Nodes.{node_at, node_of, size_of, depth_of, concat_node, shape_at, shapes, Stands}
 use Rattle.shapes.specs.Building.{Hangs, Restarts, RestartsAt}
 use Rattle.shapes.proofs.Reading.{restarted_size, restarted_depth, restarted_number, restarted_occurs}
 use Rattle.shapes.proofs.Tables.{stands_root, stands_shape, not_here}
@@ -33,11 +33,6 @@ concat_node_of xs i l r hl hr =
     let sizes : size_of (node_at xs (number l)) + size_of (node_at xs (number r)) ≡ size l + size r = omega (arith, stands_size xs l hl, stands_size xs r hr) in
     let depths : max (depth_of (node_at xs (number l))) (depth_of (node_at xs (number r))) + 1 ≡ max (depth l) (depth r) + 1 = omega (arith, stands_depth xs l hl, stands_depth xs r hr) in
     ap (λ z. Concat (number l) (number r) z (max (depth_of (node_at xs (number l))) (depth_of (node_at xs (number r))) + 1)) sizes ∙ ap (λ d. Concat (number l) (number r) (size l + size r) d) depths
-
--- where the node over two others fits, making it gives it; the table goes by two terms
-pub made_over : {xs ys : List Node} {l r : ℕ} → (made : Option Node) → ys ≡ xs → FitsOver xs l r → MatchOption made (FitsOver ys l r → ⊥) (λ x. FitsOver ys l r × (x ≡ concat_node ys l r)) → made ≡ Some (concat_node xs l r)
-made_over {xs} {ys} {l} {r} None table fits h = absurd (h (subst (λ us. FitsOver us l r) (sym table) fits))
-made_over {xs} {ys} {l} {r} (Some x) table fits h = ap Some (h.1 ∙ ap (λ us. concat_node us l r) table)
 
 -- a shape stands where its nodes are as they were
 pub stands_kept : (xs ys : List Node) (t : Shape) → Stands xs t → length xs ≤ length ys → ((k : ℕ) → 0 < occurs k t → k < length xs → node_at ys k ≡ node_at xs k) → Stands ys t

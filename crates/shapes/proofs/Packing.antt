@@ -189,6 +189,8 @@ module _ {start n m : ℕ} {xs ys zs : List Node} (many : 1 < m) (few : m ≤ 10
       let at_right : number right.shape ≡ j = omega (arith, packs_number right) in
       subst (λ k. Joins start n m xs zs k j) at_left (subst (Joins start n m xs zs (number left.shape)) at_right joins_tops)
 
+pub ruleset packing = (packs_leaf, joins)
+
 -- how many nodes are hung behind
 pub packs_long : {start n m : ℕ} {xs ys : List Node} → PacksBehind start n m xs ys → length ys + 1 ≡ length xs + 2 * m
 packs_long {start} {n} {m} {xs} {ys} p = omega (arith, ap length p.behind, length-append xs p.added, p.long, halved_nodes m p.shape p.halved)

@@ -76,6 +76,7 @@ pub(crate) fn restart_under(nodes: &mut [Node], at: usize, start: usize)
 }
 
 // Hangs the packed tree over some leaves behind the nodes, for `size` elements from `start` on.
+#[tactic(auto, using(shapes::proofs::Packing::packing))]
 pub(crate) fn pack_under(nodes: &mut Vec<Node>, start: usize, size: usize, leaves: usize)
     requires some { 0 < leaves }
     requires least { 64 * (leaves - 1) ≤ size }
