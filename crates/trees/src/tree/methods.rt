@@ -161,7 +161,7 @@ impl Tree {
         ensures { tree_nodes self.new ≡ source.entry.nodes.now }
     {
         self.nodes.clear();
-        let _ = self.nodes.extend_from_slice(source.nodes);
+        self.nodes.extend_from_slice(source.nodes).unwrap();
     }
 
     // Makes this the same tree as another.
