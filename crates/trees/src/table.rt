@@ -1,5 +1,5 @@
 // What is done to the table of a rope's nodes, from the topmost node down: by plain recursion, as the rules ask.
-ghost use Rattle.std.specs.Prelude.{◌≡◌, ℕ, ◌+◌, ◌-◌, ◌*◌, ◌^◌, ◌<◌, ◌≤◌, max, length, vec_len, vec_capacity};
+ghost use Rattle.std.specs.Prelude.{◌≡◌, ◌+◌, ◌-◌, ◌*◌, ◌^◌, ◌<◌, ◌≤◌, vec_len, vec_capacity};
 ghost use Rattle.shapes.specs.Nodes.{node_at, size_of};
 ghost use Rattle.shapes.specs.Building.{Hangs, FoundAt, RestartsAt, PacksBehind};
 

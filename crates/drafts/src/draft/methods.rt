@@ -1,5 +1,5 @@
 // What can be done with a draft: add a leaf, put two nodes together, seal it into a tree.
-ghost use Rattle.std.specs.Prelude.{◌≡◌, ◌+◌, ◌<◌, ◌≤◌, true, [], ◌∷◌, ◌++◌, length, IfOk, OnErr, vec_len, vec_capacity, MatchBool, slice_set};
+ghost use Rattle.std.specs.Prelude.{◌≡◌, ◌+◌, ◌<◌, ◌≤◌, [], ◌∷◌, ◌++◌, length, IfOk, OnErr, vec_capacity, MatchBool};
 ghost use Rattle.base.specs.Refusals.{Passes, Answered};
 ghost use Rattle.shapes.specs.Nodes.{concat_node, last_shape, size_of, depth_of};
 ghost use Rattle.shapes.specs.Shapes.{size, depth};
@@ -21,15 +21,6 @@ fn reserved<T>(heap: Global) -> Result<Vec<T>, AllocError>
     ensures { IfOk result (λ v. (v.items ≡ []) × (1023 ≤ vec_capacity v)) }
 {
     Vec::with_capacity(heap, MOST_NODES)
-}
-
-// Notes that a node has a parent now.
-fn adopt(parented: &mut Vec<bool>, node: usize)
-    requires { node < vec_len parented.old }
-    ensures items { parented.new.items ≡ slice_set parented.old.items node true }
-    ensures capacity { vec_capacity parented.new ≡ vec_capacity parented.old }
-{
-    parented[node] = true;
 }
 
 impl Draft {
@@ -85,21 +76,6 @@ impl Draft {
         self.parented.get(node).is_some_and(|parented| !*parented)
     }
 
-    // Adds a leaf for the next elements behind the nodes.
-    #[tactic(auto, using(shapes::proofs::Keeping::leaf_more))]
-    fn append_leaf(&mut self, size: usize)
-        requires { Passes (leaf_asks (draft_shapes self.old) size) }
-        ensures { draft_shapes self.new
-            ≡ draft_shapes self.old ++ (next_leaf (draft_shapes self.old) size ∷ []) }
-    {
-        self.nodes.push_reserved(Node::Leaf {
-            start: self.elements,
-            size,
-        });
-        self.parented.push_reserved(false);
-        self.elements += size;
-    }
-
     // The node over two parentless nodes.
     #[tactic(auto, using(shapes::proofs::Keeping::concat_fits))]
     fn node_over(&self, left: usize, right: usize) -> Node
@@ -109,21 +85,8 @@ impl Draft {
         concat_node(&self.nodes, left, right).unwrap()
     }
 
-    // Puts two parentless nodes together under a new one behind the nodes.
-    #[tactic(auto, using(shapes::proofs::Keeping::concat_more))]
-    fn append_concat(&mut self, left: usize, right: usize)
-        requires { Passes (concat_asks (draft_shapes self.old) left right) }
-        ensures { draft_shapes self.new
-            ≡ draft_shapes self.old ++ (next_concat (draft_shapes self.old) left right ∷ []) }
-    {
-        let parent = self.node_over(left, right);
-        self.nodes.push_reserved(parent);
-        adopt(&mut self.parented, left);
-        adopt(&mut self.parented, right);
-        self.parented.push_reserved(false);
-    }
-
     // Adds a leaf for the next elements and answers its number.
+    #[tactic(auto, using(shapes::proofs::Keeping::leaf_more))]
     pub fn leaf(&mut self, size: usize) -> Result<usize, Refusal>
         ensures added { Answered (leaf_asks (draft_shapes self.old) size) result (λ k.
             (k ≡ length (draft_shapes self.old))
@@ -138,11 +101,17 @@ impl Draft {
         if number >= MOST_NODES || size > self.space() {
             return Err(Refusal::Space);
         }
-        self.append_leaf(size);
+        self.nodes.push_reserved(Node::Leaf {
+            start: self.elements,
+            size,
+        });
+        self.parented.push_reserved(false);
+        self.elements += size;
         Ok(number)
     }
 
     // Puts two parentless nodes together, one behind the other, and answers the number of the new node.
+    #[tactic(auto, using(shapes::proofs::Keeping::concat_more))]
     pub fn concat(&mut self, left: usize, right: usize) -> Result<usize, Refusal>
         ensures added { Answered (concat_asks (draft_shapes self.old) left right) result (λ k.
             (k ≡ length (draft_shapes self.old))
@@ -157,7 +126,11 @@ impl Draft {
         if number >= MOST_NODES {
             return Err(Refusal::Space);
         }
-        self.append_concat(left, right);
+        let parent = self.node_over(left, right);
+        self.nodes.push_reserved(parent);
+        self.parented[left] = true;
+        self.parented[right] = true;
+        self.parented.push_reserved(false);
         Ok(number)
     }
 

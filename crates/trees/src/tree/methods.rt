@@ -1,10 +1,10 @@
 // What can be done with a tree: make it, ask it, pack it, start its leaves anew.
 ghost use Rattle.std.specs.Prelude.{◌≡◌, ◌+◌, ◌<◌, ◌≤◌, [], ◌∷◌, length, IfOk, OnErr, MatchBool, MatchOption};
 ghost use Rattle.base.specs.Refusals.{Answered};
-ghost use Rattle.shapes.specs.Shapes.{leaf, number, size, depth, end, reading, EndsWithin, TooFew, Reaches, Started, Alike};
+ghost use Rattle.shapes.specs.Shapes.{size, depth, end, EndsWithin, TooFew, Reaches, Started, Alike};
 ghost use Rattle.shapes.specs.Places.{FoundOnly};
 ghost use Rattle.shapes.specs.Packed.{leaves_for, PackedAs};
-ghost use Rattle.shapes.specs.Nodes.{last_shape, size_of, depth_of};
+ghost use Rattle.shapes.specs.Nodes.{size_of, depth_of};
 ghost use Rattle.shapes.specs.declared.node.Node.TheVariants.{Leaf};
 ghost use Rattle.shelves.specs.Shelves.{held};
 ghost use Rattle.trees.specs.Calls.{get_asks, ItemAt, ReadsAsItLies, pack_asks};
