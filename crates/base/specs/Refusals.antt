@@ -1,5 +1,5 @@
 -- The table of refusals: the number of each, and which of several holds. Assumes nothing.
-use Rattle.std.specs.Prelude.{ℕ, MatchBool, ◌==◌}
+use Rattle.std.specs.Prelude.{ℕ, MatchBool, MatchResult, Result, ◌==◌}
 use Rattle.base.specs.declared.refusal.Refusal.{Refusal}
 use Rattle.base.specs.declared.refusal.Refusal.TheVariants.{Shape, Field, LeafSize, Node, Buffer, Space, Roots, Balance}
 
@@ -27,3 +27,7 @@ Refuses (unless r fine rest) e = MatchBool (number r == number e) (fine → ⊥)
 abbrev pub Passes : Conditions → Type 0
 Passes no_more = Unit {0}
 Passes (unless r fine rest) = fine × Passes rest
+
+-- What a call that asks these answers: all of it holds, and with it what is said of the value; or it is refused, by the first that does not hold.
+abbrev pub Answered : {A : Type 0} → Conditions → Result A Refusal → (A → Type 0) → Type 0
+Answered asks answer Does = MatchResult answer (λ a. Passes asks × Does a) (λ e. Refuses asks e)

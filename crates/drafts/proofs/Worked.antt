@@ -6,7 +6,8 @@ use Rattle.std.proofs.lemmas.Bool.{cases_lt}
 use Rattle.shapes.specs.Shapes.{Shape}
 use Rattle.shapes.specs.Balance.{LeastPower}
 use Rattle.shapes.specs.Drafts.{Drafted, nothing, a_leaf, a_concat, has_parent, parentless, own, elements, next_leaf, next_concat}
-use Rattle.shapes.proofs.Drafting.{or_false, has_parent_push, newest_parentless}
+use Rattle.std.proofs.Math.Bool.{or-false}
+use Rattle.shapes.proofs.Drafting.{has_parent_push, newest_parentless}
 use Rattle.shapes.proofs.Growing.{balanced_by, root_balanced}
 use Rattle.drafts.specs.Examples.{longer, chain, top, Chains}
 
@@ -23,7 +24,7 @@ grows ts d some few small =
     let us = ts ++ (next_leaf ts 1 ∷ []) in
     let long : length us ≡ length ts + 1 = length_push ts (next_leaf ts 1) in
     let with_leaf : Drafted us = a_leaf 1 d (omega arith) (omega arith) (omega arith) in
-    let last : has_parent us (length ts - 1) ≡ false = has_parent_push ts (next_leaf ts 1) (length ts - 1) ∙ or_false (has_parent ts (length ts - 1)) ∙ newest_parentless d (length ts - 1) (omega arith) in
+    let last : has_parent us (length ts - 1) ≡ false = has_parent_push ts (next_leaf ts 1) (length ts - 1) ∙ or-false (has_parent ts (length ts - 1)) ∙ newest_parentless d (length ts - 1) (omega arith) in
     let new : has_parent us (length ts) ≡ false = newest_parentless with_leaf (length ts) (sym long) in
     a_concat (length ts - 1) (length ts) with_leaf (omega arith, last) (omega arith, new) (λ e. omega arith) (omega arith)
 

@@ -1,6 +1,7 @@
 -- What always holds of drafts. Assumes nothing.
 use Rattle.std.proofs.Common.{◌≡◌, ℕ, suc, ◌+◌, ◌-◌, ◌<◌, ◌≤◌, max, Bool, true, false, cond, not, ◌||◌, eqb, ltb, List, [], ◌∷◌, ◌++◌, map, length, get_or, set, count_by, filter, sym, refl, ap, ◌∙◌, subst, ⊎_elim, arith}
 use mathlib.Core.Path.{fun_ext}
+use Rattle.std.proofs.Math.Bool.{or-false, or_assoc}
 use Rattle.std.proofs.lemmas.List.{length_push, length-map, length-set, map_push, get_or_append_left, get_or_push, get_or-map, get_or-set_same, get_or-set_other, ext_get_or, nil_from_length}
 use Rattle.std.proofs.lemmas.List.Elements.{filter-append}
 use Rattle.std.proofs.lemmas.List.Sums.{sum_by_push, sum_by-cons, length-filter}
@@ -40,16 +41,8 @@ drafted_small (a_concat {ts} l r d left right other few) = omega (arith, sum_by_
 
 -- ---- parents
 
-pub or_false : (b : Bool) → (b || false) ≡ b
-or_false true = refl
-or_false false = refl
-
-or_assoc : (a b c : Bool) → ((a || b) || c) ≡ (a || (b || c))
-or_assoc true b c = refl
-or_assoc false b c = refl
-
 pub has_parent_push : (ts : List Shape) (s : Shape) (k : ℕ) → has_parent (ts ++ (s ∷ [])) k ≡ (has_parent ts k || child k s)
-has_parent_push [] s k = or_false (child k s)
+has_parent_push [] s k = or-false (child k s)
 has_parent_push (t ∷ ts) s k = ap (λ b. child k t || b) (has_parent_push ts s k) ∙ sym (or_assoc (child k t) (has_parent ts k) (child k s))
 
 -- the children of a concatenation, by their numbers
@@ -85,7 +78,7 @@ pub newest_parentless : {ts : List Shape} → Drafted ts → (k : ℕ) → k + 1
 newest_parentless nothing k last = absurd (omega arith)
 newest_parentless (a_leaf {ts} n d small few fits) k last =
     let here : length ts ≤ k = omega (arith, length_push ts (next_leaf ts n)) in
-    has_parent_push ts (next_leaf ts n) k ∙ or_false (has_parent ts k) ∙ new_parentless d k here
+    has_parent_push ts (next_leaf ts n) k ∙ or-false (has_parent ts k) ∙ new_parentless d k here
 newest_parentless (a_concat {ts} l r d left right other few) k last =
     let here : length ts ≤ k = omega (arith, length_push ts (next_concat ts l r)) in
     has_parent_push ts (next_concat ts l r) k
@@ -116,7 +109,7 @@ module _ (f : Shape → ℕ) (op : ℕ → ℕ → ℕ) (o : Order op) where
 
   over_leaf : {ts : List Shape} → Drafted ts → (n : ℕ) → over (ts ++ (next_leaf ts n ∷ [])) ≡ op (over ts) (f (next_leaf ts n))
   over_leaf {ts} d n =
-      let is : (k : ℕ) → has_parent (ts ++ (next_leaf ts n ∷ [])) k ≡ has_parent ts k = λ k. has_parent_push ts (next_leaf ts n) k ∙ or_false (has_parent ts k) in
+      let is : (k : ℕ) → has_parent (ts ++ (next_leaf ts n ∷ [])) k ≡ has_parent ts k = λ k. has_parent_push ts (next_leaf ts n) k ∙ or-false (has_parent ts k) in
       over_push ts (next_leaf ts n) (has_parent ts) refl (is (length ts) ∙ new_parentless d (length ts) (omega arith)) is
 
   -- two nodes go out of the total, and the one over them comes in
@@ -205,12 +198,6 @@ module _ {ts : List Shape} (d : Drafted ts) (t : Shape) (root : parentless ts �
   unfolding below
   root_once k lt = over_root (occurs k) ◌+◌ sums ts t root ∙ occurs_over k d ∙ ap {B = ℕ} (λ b. cond b 1 0) (lt-ltb k (length ts) lt)
 
-  pub root_at_most_once : (k : ℕ) → occurs k t ≤ 1
-  unfolding below
-  root_at_most_once k =
-      let is = over_root (occurs k) ◌+◌ sums ts t root ∙ occurs_over k d in
-      ⊎_elim (λ lt. omega (arith, root_once k lt)) (λ ge. omega (arith, is, ap {B = ℕ} (λ b. cond b 1 0) (le-ltb k (length ts) ge))) (cases_lt k (length ts))
-
 -- ---- the last node is the root
 
 last_kept : (us : List Shape) (s : Shape) → has_parent (us ++ (s ∷ [])) (number s) ≡ false → length (parentless (us ++ (s ∷ []))) ≡ 1 → parentless (us ++ (s ∷ [])) ≡ s ∷ []
@@ -236,12 +223,12 @@ last_root (a_concat {ts} l r d left right other few) one =
 
 -- ---- the flags that a draft keeps
 
-pub flags_at : (ts : List Shape) → Listed ts → (k : ℕ) → k < length ts → get_or (parent_flags ts) k false ≡ has_parent ts k
-flags_at ts all k lt = get_or-map (λ t. has_parent ts (number t)) ts k (leaf (suc k) 0 0) false lt ∙ ap (has_parent ts) (listed_number ts all k lt)
+pub flags_at : (b : Bool) (ts : List Shape) → Listed ts → (k : ℕ) → k < length ts → get_or (parent_flags ts) k b ≡ has_parent ts k
+flags_at b ts all k lt = get_or-map (λ t. has_parent ts (number t)) ts k (leaf (suc k) 0 0) b lt ∙ ap (has_parent ts) (listed_number ts all k lt)
 
 pub flags_leaf : {ts : List Shape} → Drafted ts → (n : ℕ) → parent_flags (ts ++ (next_leaf ts n ∷ [])) ≡ parent_flags ts ++ (false ∷ [])
 flags_leaf {ts} d n =
-    let is : has_parent (ts ++ (next_leaf ts n ∷ [])) ≡ has_parent ts = fun_ext (λ k. has_parent_push ts (next_leaf ts n) k ∙ or_false (has_parent ts k)) in
+    let is : has_parent (ts ++ (next_leaf ts n ∷ [])) ≡ has_parent ts = fun_ext (λ k. has_parent_push ts (next_leaf ts n) k ∙ or-false (has_parent ts k)) in
     ap (λ (P : ℕ → Bool). map (λ t. P (number t)) (ts ++ (next_leaf ts n ∷ []))) is
     ∙ map_push (λ t. has_parent ts (number t)) ts (next_leaf ts n)
     ∙ ap (λ b. parent_flags ts ++ (b ∷ [])) (new_parentless d (length ts) (omega arith))
@@ -265,9 +252,9 @@ marked_flags ts all l r left right = ext_get_or false (map R ts) (set (set (pare
         let is : get_or (map R ts) k false ≡ ((has_parent ts k || eqb k l) || eqb k r) = get_or-map R ts k (leaf (suc k) 0 0) false lt ∙ ap (λ j. (has_parent ts j || eqb j l) || eqb j r) named in
         is ∙ ⊎_elim
         (λ er. or_right (has_parent ts k || eqb k l) (eqb k r) (eq-eqb k r er) ∙ sym (ap (λ j. get_or (set (set (parent_flags ts) l true) r true) j false) er ∙ get_or-set_same (set (parent_flags ts) l true) r true false (omega (arith, flagged, length-set (parent_flags ts) l true))))
-        (λ nr. ap (λ b. (has_parent ts k || eqb k l) || b) (ne_eqb k r nr) ∙ or_false (has_parent ts k || eqb k l) ∙ ⊎_elim
+        (λ nr. ap (λ b. (has_parent ts k || eqb k l) || b) (ne_eqb k r nr) ∙ or-false (has_parent ts k || eqb k l) ∙ ⊎_elim
         (λ el. or_right (has_parent ts k) (eqb k l) (eq-eqb k l el) ∙ sym (get_or-set_other (set (parent_flags ts) l true) r k true false nr ∙ ap (λ j. get_or (set (parent_flags ts) l true) j false) el ∙ get_or-set_same (parent_flags ts) l true false (omega (arith, flagged))))
-        (λ nl. ap (λ b. has_parent ts k || b) (ne_eqb k l nl) ∙ or_false (has_parent ts k) ∙ sym (get_or-set_other (set (parent_flags ts) l true) r k true false nr ∙ get_or-set_other (parent_flags ts) l k true false nl ∙ flags_at ts all k lt))
+        (λ nl. ap (λ b. has_parent ts k || b) (ne_eqb k l nl) ∙ or-false (has_parent ts k) ∙ sym (get_or-set_other (set (parent_flags ts) l true) r k true false nr ∙ get_or-set_other (parent_flags ts) l k true false nl ∙ flags_at false ts all k lt))
         (cases_eq k l))
         (cases_eq k r)
 

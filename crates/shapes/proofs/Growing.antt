@@ -1,22 +1,21 @@
 -- The tables that are a tree's: a single leaf, a packed tree, a tree whose leaves were started anew, a sealed draft. Assumes nothing.
-use Rattle.std.proofs.Common.{◌≡◌, ℕ, zero, suc, ◌+◌, ◌-◌, ◌*◌, ◌<◌, ◌≤◌, max, Bool, List, [], ◌∷◌, ◌++◌, length, get_or, replicate, sym, ap, ◌∙◌, subst, ⊎_elim, arith}
+use Rattle.std.proofs.Common.{◌≡◌, ℕ, zero, suc, ◌+◌, ◌-◌, ◌*◌, ◌<◌, ◌≤◌, max, Bool, List, [], ◌∷◌, ◌++◌, length, replicate, sym, ap, ◌∙◌, subst, ⊎_elim, arith}
 use mathlib.Core.Logic.{∥∥₁_elim}
-use native.Mathlib.Bridge.{le_prop}
-use native.Mathlib.Nat.{ℕ_set}
-use Rattle.std.proofs.lemmas.List.{get_or_read}
+use Rattle.std.proofs.Props.{props}
 use Rattle.std.proofs.lemmas.Bool.{cases_lt}
 use Rattle.shapes.specs.declared.node.Node.{Node}
-use Rattle.shapes.specs.declared.node.Node.TheVariants.{Leaf}
 use Rattle.shapes.specs.Shapes.{Shape, leaf, concat, number, size, depth, occurs, leaf_sizes, widest, end, Started, Alike, restarted}
 use Rattle.shapes.specs.Balance.{LeastPower, Balanced}
 use Rattle.shapes.specs.Packed.{leaves_for, Packed, PackedAs}
-use Rattle.shapes.specs.Nodes.{size_of, depth_of, shape_at, shapes, last_shape, Sound, Stands}
+use Rattle.shapes.specs.Nodes.{node_at, size_of, shape_at, shapes, last_shape, Sound, Stands}
 use Rattle.shapes.specs.Trees.{Grown}
-use Rattle.shapes.specs.Building.{Hangs, Restarts, RestartsAt, PacksBehind}
-use Rattle.shapes.specs.Drafts.{parentless, Drafted, Kept}
+use Rattle.shapes.specs.Building.{Hangs, FoundAt, Restarts, RestartsAt, PacksBehind}
+use Rattle.shapes.specs.Places.{FoundOnly}
+use Rattle.shapes.specs.Drafts.{parentless, Kept}
 use Rattle.shapes.proofs.Tables.{length_shapes, sound_listed, listed_number, stands_at, stands_shape, stands_sound}
 use Rattle.shapes.proofs.Reading.{started_end, restarted_size, restarted_depth, restarted_number, restarted_widest, restarted_occurs, restarted_started, restarted_alike}
-use Rattle.shapes.proofs.Hanging.{occurs_within, stands_size, stands_depth, hangs_size}
+use Rattle.shapes.proofs.Hanging.{occurs_within, hangs_size}
+use Rattle.shapes.proofs.Finding.{found_only}
 use Rattle.shapes.proofs.Packing.{numbered_number, numbered_once, packed_size, packed_balanced, packed_as, packs_all, packs_long}
 use Rattle.shapes.proofs.Drafting.{root_size, root_end, root_once, narrow_at, drafted_few, drafted_small}
 use Rattle.shapes.proofs.Keeping.{kept_root}
@@ -59,15 +58,6 @@ last_stands xs sound some = stands_at xs sound (length xs - 1) (omega arith)
 pub last_number : (xs : List Node) → Sound xs → 0 < length xs → number (last_shape xs) ≡ length xs - 1
 last_number xs sound some = listed_number (shapes xs) (sound_listed xs sound) (length xs - 1) (omega (arith, length_shapes xs))
 
--- the last node has the size and the depth of the whole
-pub last_node : (xs : List Node) → Sound xs → (i : ℕ) (x : Node) → i + 1 ≡ length xs → x ≡ get_or xs i x → (size_of x ≡ size (last_shape xs)) × (depth_of x ≡ depth (last_shape xs))
-last_node xs sound i x last read =
-    let some : 0 < length xs = omega arith in
-    let at : i ≡ number (last_shape xs) = omega (arith, last_number xs sound some) in
-    let node : x ≡ get_or xs (number (last_shape xs)) (Leaf 0 0) = get_or_read xs i x (omega arith) read (Leaf 0 0) ∙ ap (λ k. get_or xs k (Leaf 0 0)) at in
-    let stands = last_stands xs sound some in
-    (ap size_of node ∙ stands_size xs (last_shape xs) stands, ap depth_of node ∙ stands_depth xs (last_shape xs) stands)
-
 -- what stands in a tree
 pub grown_stands : {xs : List Node} → Grown xs → Stands xs (last_shape xs)
 grown_stands {xs} g = last_stands xs g.sound g.some
@@ -89,7 +79,7 @@ pub record Under (xs zs : List Node) (i : ℕ) : Type 0 where
   pub hangs : Hangs zs i
   pub stands : Stands zs (last_shape xs)
   pub named : number (last_shape xs) ≡ i
-  pub whole : size_of (get_or zs i (Leaf 0 0)) ≡ size (last_shape xs)
+  pub whole : size_of (node_at zs i) ≡ size (last_shape xs)
 
 pub grown_under : {xs : List Node} → Grown xs → (zs : List Node) (i : ℕ) → zs ≡ xs → i + 1 ≡ length xs → Under xs zs i
 unfolding grown_hangs
@@ -98,10 +88,11 @@ grown_under {xs} g zs i table last =
     subst (λ us. Under xs us i) (sym table) (subst (Under xs xs) at
     (record { hangs = grown_hangs g; stands = grown_stands g; named = grown_number g; whole = hangs_size (grown_hangs g) }))
 
-pub restarts_root : {xs : List Node} (zs ys : List Node) (i : ℕ) → zs ≡ xs → i + 1 ≡ length xs → RestartsAt i 0 zs ys → RestartsAt (length xs - 1) 0 xs ys
-restarts_root {xs} zs ys i table last h =
-    let at : i ≡ length xs - 1 = omega arith in
-    subst (λ us. RestartsAt (length xs - 1) 0 us ys) table (subst (λ k. RestartsAt k 0 zs ys) at h)
+-- what is found below the root is found in the whole
+pub found_under : {xs : List Node} → Grown xs → (zs : List Node) (i p place met : ℕ) → zs ≡ xs → i + 1 ≡ length xs → FoundAt zs i p place met → FoundOnly (last_shape xs) p place met
+found_under {xs} g zs i p place met table last found =
+    let under = grown_under g zs i table last in
+    found_only (last_shape xs) p place met (found (last_shape xs) under.stands under.named)
 
 -- ---- packed trees
 
@@ -130,7 +121,10 @@ packed_narrow k t p =
     let m = leaves_for k - 1 in
     omega (arith, widest_top t, ap top p.full, top_append (replicate m 64) ((k - 64 * m) ∷ []), top_full m)
 
-module _ {k : ℕ} {xs : List Node} (p : PacksBehind 0 k (leaves_for k) [] xs) (small : k ≤ 32768) where
+module _ {k m : ℕ} {was xs : List Node} (packs : PacksBehind 0 k m was xs) (none : was ≡ []) (leaves : m ≡ leaves_for k) (small : k ≤ 32768) where
+  p : PacksBehind 0 k (leaves_for k) [] xs
+  p = subst (λ us. PacksBehind 0 k (leaves_for k) us xs) none (subst (λ n. PacksBehind 0 k n was xs) leaves packs)
+
   packed : Packed k p.shape
   packed = packs_all k xs p
 
@@ -154,77 +148,35 @@ module _ {k : ℕ} {xs : List Node} (p : PacksBehind 0 k (leaves_for k) [] xs) (
 
 -- ---- leaves started anew
 
-module _ {xs ys : List Node} (g : Grown xs) (restarts : RestartsAt (length xs - 1) 0 xs ys) where
-  t : Shape
-  t = last_shape xs
+pub record Anew (xs ys : List Node) : Type 0 where
+  pub grown : Grown ys
+  pub alike : Alike (last_shape xs) (last_shape ys)
+  pub started : Started 0 (last_shape ys)
 
-  r : Restarts t 0 xs ys
-  unfolding t
-  r = restarts (last_shape xs) (grown_stands g) (grown_number g)
-
-  anew : Holds ys (restarted 0 t)
-  unfolding t
-  anew = record {
-    stands = r.stands;
-    last = omega (arith, restarted_number 0 t, grown_number g, r.long, g.some);
-    few = omega (arith, r.long, g.few);
-    once = λ k lt. restarted_occurs k 0 t ∙ g.rooted k (omega (arith, r.long));
-    balanced = λ k power. omega (arith, restarted_depth 0 t, g.balanced k (subst (λ n. LeastPower n k) (restarted_size 0 t) power));
-    small = omega (arith, restarted_size 0 t, g.small);
-    narrow = omega (arith, restarted_widest 0 t, g.narrow);
-    ended = started_end 0 (restarted 0 t) (restarted_started 0 t) ∙ omega arith;
-  }
-
-  pub grown_restarted : Grown ys
-  grown_restarted = holds_grown anew
-
-  pub restarted_like : Alike (last_shape xs) (last_shape ys)
-  unfolding t
-  restarted_like = subst (Alike t) (sym (holds_shape anew)) (restarted_alike 0 t)
-
-  pub restarted_from_0 : Started 0 (last_shape ys)
-  restarted_from_0 = subst (Started 0) (sym (holds_shape anew)) (restarted_started 0 t)
+-- the table zs is xs, and i the number of its last node
+pub grown_anew : {xs : List Node} → Grown xs → (zs ys : List Node) (i : ℕ) → zs ≡ xs → i + 1 ≡ length xs → RestartsAt i 0 zs ys → Anew xs ys
+grown_anew {xs} g zs ys i table last restarts =
+    let t = last_shape xs in
+    let under = grown_under g zs i table last in
+    let r : Restarts t 0 zs ys = restarts t under.stands under.named in
+    let long : length ys ≡ length xs = r.long ∙ ap length table in
+    let anew : Holds ys (restarted 0 t) = record {
+      stands = r.stands;
+      last = omega (arith, restarted_number 0 t, grown_number g, g.some);
+      few = omega (arith, g.few);
+      once = λ k lt. restarted_occurs k 0 t ∙ g.rooted k (omega arith);
+      balanced = λ k power. omega (arith, restarted_depth 0 t, g.balanced k (subst (λ n. LeastPower n k) (restarted_size 0 t) power));
+      small = omega (arith, restarted_size 0 t, g.small);
+      narrow = omega (arith, restarted_widest 0 t, g.narrow);
+      ended = started_end 0 (restarted 0 t) (restarted_started 0 t) ∙ omega arith;
+    } in
+    record {
+      grown = holds_grown anew;
+      alike = subst (Alike t) (sym (holds_shape anew)) (restarted_alike 0 t);
+      started = subst (Started 0) (sym (holds_shape anew)) (restarted_started 0 t);
+    }
 
 -- ---- sealed drafts
-
-grown_drafted : {xs : List Node} → Sound xs → Drafted (shapes xs) → parentless (shapes xs) ≡ last_shape xs ∷ [] → 0 < length xs → Balanced (last_shape xs) → Grown xs
-grown_drafted {xs} sound d root some balanced = record {
-  some = some;
-  few = omega (arith, drafted_few d, length_shapes xs);
-  sound = sound;
-  rooted = λ k lt. root_once d (last_shape xs) root k (omega (arith, length_shapes xs));
-  balanced = balanced;
-  small = omega (arith, root_size d (last_shape xs) root, drafted_small d);
-  narrow = narrow_at d (length xs - 1) (omega (arith, length_shapes xs));
-  ended = root_end d (last_shape xs) root;
-}
-
-one_node : (ts : List Shape) → length (parentless ts) ≡ 1 → 0 < length ts
-one_node [] e = absurd (omega arith)
-one_node (u ∷ us) e = omega arith
-
--- a draft that is kept has a node where one is parentless, and as many elements as fit
-module _ {xs : List Node} {fs : List Bool} (k : Kept xs fs) (one : length (parentless (shapes xs)) ≡ 1) where
-  pub sealed_some : 0 < length xs
-  sealed_some = omega (arith, one_node (shapes xs) one, length_shapes xs)
-
-  sealed_small : size (last_shape xs) ≤ 32768
-  sealed_small = ∥∥₁_elim k.drafted le_prop (λ d. omega (arith, root_size d (last_shape xs) (kept_root k one), drafted_small d))
-
-  -- balanced, it is a tree
-  pub grown_sealed : Balanced (last_shape xs) → Grown xs
-  grown_sealed balanced =
-      let g = λ (d : Drafted (shapes xs)). grown_drafted k.sound d (kept_root k one) sealed_some balanced in
-      record {
-        some = sealed_some;
-        few = ∥∥₁_elim k.drafted le_prop (λ d. (g d).few);
-        sound = k.sound;
-        rooted = λ j lt. ∥∥₁_elim k.drafted (ℕ_set _ _) (λ d. (g d).rooted j lt);
-        balanced = balanced;
-        small = sealed_small;
-        narrow = ∥∥₁_elim k.drafted le_prop (λ d. (g d).narrow);
-        ended = ∥∥₁_elim k.drafted (ℕ_set _ _) (λ d. (g d).ended);
-      }
 
 -- a shape is balanced by the least power of its size
 pub balanced_by : (t : Shape) (k : ℕ) → LeastPower (size t) k → depth t ≤ k + 2 → Balanced t
@@ -236,3 +188,39 @@ root_balanced ts t root balanced u other =
     let both : t ∷ [] ≡ u ∷ [] = sym root ∙ other in
     let is : t ≡ u = cc both in
     subst Balanced is balanced
+
+one_node : (ts : List Shape) → length (parentless ts) ≡ 1 → 0 < length ts
+one_node [] e = absurd (omega arith)
+one_node (u ∷ us) e = omega arith
+
+-- a draft that is kept, with one parentless node: a tree where that is balanced
+module _ {xs : List Node} {fs : List Bool} (k : Kept xs fs) (one : length (parentless (shapes xs)) ≡ 1) where
+  pub sealed_some : 0 < length xs
+  sealed_some = omega (arith, one_node (shapes xs) one, length_shapes xs)
+
+  pub grown_sealed : Balanced (last_shape xs) → Grown xs
+  grown_sealed balanced =
+      let t = last_shape xs in
+      let root = kept_root k one in
+      ∥∥₁_elim k.drafted (hlevel props)
+      (λ d. record {
+        some = sealed_some;
+        few = omega (arith, drafted_few d, length_shapes xs);
+        sound = k.sound;
+        rooted = λ i lt. root_once d t root i (omega (arith, length_shapes xs));
+        balanced = balanced;
+        small = omega (arith, root_size d t root, drafted_small d);
+        narrow = narrow_at d (length xs - 1) (omega (arith, sealed_some, length_shapes xs));
+        ended = root_end d t root;
+      })
+
+  -- what is balanced is told by the least power of the size, where size and depth go by other terms
+  module _ {n deep p : ℕ} (sized : n ≡ size (last_shape xs)) (levels : deep ≡ depth (last_shape xs)) (power : LeastPower n p) where
+    pub sealed_deep : p + 2 < deep → ((t : Shape) → parentless (shapes xs) ≡ t ∷ [] → Balanced t) → ⊥
+    sealed_deep over all = omega (arith, all (last_shape xs) (kept_root k one) p (subst (λ m. LeastPower m p) sized power))
+
+    sealed_last : deep ≤ p + 2 → Balanced (last_shape xs)
+    sealed_last low j other = omega (arith, power.least j (omega (arith, other.enough)))
+
+    pub sealed_grown : deep ≤ p + 2 → ((t : Shape) → parentless (shapes xs) ≡ t ∷ [] → Balanced t) × (Grown xs × (parentless (shapes xs) ≡ last_shape xs ∷ []))
+    sealed_grown low = (root_balanced (shapes xs) (last_shape xs) (kept_root k one) (sealed_last low), (grown_sealed (sealed_last low), kept_root k one))

@@ -1,11 +1,11 @@
 -- Shapes that stand in a table whose nodes change. Assumes nothing.
-use Rattle.std.proofs.Common.{◌≡◌, ℕ, ◌+◌, ◌^◌, ◌<◌, ◌≤◌, max, cond, List, ◌++◌, length, get_or, set, sym, refl, ap, ◌∙◌, subst, arith}
-use Rattle.std.proofs.lemmas.List.{length-append, length-set, get_or_append_left, get_or-set_same, get_or-set_other}
+use Rattle.std.proofs.Common.{◌≡◌, ℕ, ◌+◌, ◌^◌, ◌<◌, ◌≤◌, max, cond, List, ◌++◌, length, sym, refl, ap, ◌∙◌, subst, arith}
+use Rattle.std.proofs.lemmas.List.{length-append, get_or_append_left}
 use Rattle.std.proofs.lemmas.Bool.{eq-eqb}
 use Rattle.shapes.specs.declared.node.Node.{Node}
 use Rattle.shapes.specs.declared.node.Node.TheVariants.{Leaf, Concat}
 use Rattle.shapes.specs.Shapes.{Shape, leaf, concat, number, size, depth, same, occurs, end, restarted}
-use Rattle.shapes.specs.Nodes.{node_of, size_of, depth_of, concat_node, shape_at, shapes, Stands}
+use Rattle.shapes.specs.Nodes.{node_at, node_of, size_of, depth_of, concat_node, shape_at, shapes, Stands}
 use Rattle.shapes.specs.Building.{Hangs, Restarts, RestartsAt}
 use Rattle.shapes.proofs.Reading.{restarted_size, restarted_depth, restarted_number, restarted_occurs}
 use Rattle.shapes.proofs.Tables.{stands_root, stands_shape, not_here}
@@ -19,23 +19,23 @@ occurs_root (leaf i s n) = omega (arith, right_here i)
 occurs_root (concat i l r) = omega (arith, right_here i)
 
 -- the size and the depth that a node keeps are those of its shape
-pub stands_size : (xs : List Node) (t : Shape) → Stands xs t → size_of (get_or xs (number t) (Leaf 0 0)) ≡ size t
+pub stands_size : (xs : List Node) (t : Shape) → Stands xs t → size_of (node_at xs (number t)) ≡ size t
 stands_size xs (leaf i s n) h = ap size_of h.1
 stands_size xs (concat i l r) h = ap size_of h.0.1
 
-pub stands_depth : (xs : List Node) (t : Shape) → Stands xs t → depth_of (get_or xs (number t) (Leaf 0 0)) ≡ depth t
+pub stands_depth : (xs : List Node) (t : Shape) → Stands xs t → depth_of (node_at xs (number t)) ≡ depth t
 stands_depth xs (leaf i s n) h = ap depth_of h.1
 stands_depth xs (concat i l r) h = ap depth_of h.0.1
 
 -- the node over two shapes that stand there is that of their concatenation
 pub concat_node_of : (xs : List Node) (i : ℕ) (l r : Shape) → Stands xs l → Stands xs r → concat_node xs (number l) (number r) ≡ node_of (concat i l r)
 concat_node_of xs i l r hl hr =
-    let sizes : size_of (get_or xs (number l) (Leaf 0 0)) + size_of (get_or xs (number r) (Leaf 0 0)) ≡ size l + size r = omega (arith, stands_size xs l hl, stands_size xs r hr) in
-    let depths : max (depth_of (get_or xs (number l) (Leaf 0 0))) (depth_of (get_or xs (number r) (Leaf 0 0))) + 1 ≡ max (depth l) (depth r) + 1 = omega (arith, stands_depth xs l hl, stands_depth xs r hr) in
-    ap (λ z. Concat (number l) (number r) z (max (depth_of (get_or xs (number l) (Leaf 0 0))) (depth_of (get_or xs (number r) (Leaf 0 0))) + 1)) sizes ∙ ap (λ d. Concat (number l) (number r) (size l + size r) d) depths
+    let sizes : size_of (node_at xs (number l)) + size_of (node_at xs (number r)) ≡ size l + size r = omega (arith, stands_size xs l hl, stands_size xs r hr) in
+    let depths : max (depth_of (node_at xs (number l))) (depth_of (node_at xs (number r))) + 1 ≡ max (depth l) (depth r) + 1 = omega (arith, stands_depth xs l hl, stands_depth xs r hr) in
+    ap (λ z. Concat (number l) (number r) z (max (depth_of (node_at xs (number l))) (depth_of (node_at xs (number r))) + 1)) sizes ∙ ap (λ d. Concat (number l) (number r) (size l + size r) d) depths
 
 -- a shape stands where its nodes are as they were
-pub stands_kept : (xs ys : List Node) (t : Shape) → Stands xs t → length xs ≤ length ys → ((k : ℕ) → 0 < occurs k t → k < length xs → get_or ys k (Leaf 0 0) ≡ get_or xs k (Leaf 0 0)) → Stands ys t
+pub stands_kept : (xs ys : List Node) (t : Shape) → Stands xs t → length xs ≤ length ys → ((k : ℕ) → 0 < occurs k t → k < length xs → node_at ys k ≡ node_at xs k) → Stands ys t
 stands_kept xs ys (leaf i s n) h long same = (omega arith, same i (occurs_root (leaf i s n)) h.0 ∙ h.1)
 stands_kept xs ys (concat i l r) h long same = (
   (omega arith, same i (occurs_root (concat i l r)) h.0.0 ∙ h.0.1),
@@ -63,14 +63,14 @@ depth_number xs (leaf i s n) h = omega arith
 depth_number xs (concat i l r) h = omega (arith, h.1, h.2, depth_number xs l h.3, depth_number xs r h.4)
 
 -- A leaf is read at a number where a shape stands: the shape is that leaf.
-is_leaf : (xs : List Node) (t : Shape) (at s n : ℕ) → get_or xs at (Leaf 0 0) ≡ Leaf s n → Stands xs t → number t ≡ at → t ≡ leaf at s n
+is_leaf : (xs : List Node) (t : Shape) (at s n : ℕ) → node_at xs at ≡ Leaf s n → Stands xs t → number t ≡ at → t ≡ leaf at s n
 is_leaf xs (leaf i b z) at s n e h named =
-    let both : Leaf b z ≡ Leaf s n = sym h.1 ∙ ap (λ k. get_or xs k (Leaf 0 0)) named ∙ e in
+    let both : Leaf b z ≡ Leaf s n = sym h.1 ∙ ap (node_at xs) named ∙ e in
     let starts : b ≡ s = cc both in
     let sizes : z ≡ n = cc both in
     ap (λ k. leaf k b z) named ∙ ap (λ k. leaf at k z) starts ∙ ap (λ k. leaf at s k) sizes
 is_leaf xs (concat i l r) at s n e h named =
-    let both : node_of (concat i l r) ≡ Leaf s n = sym h.0.1 ∙ ap (λ k. get_or xs k (Leaf 0 0)) named ∙ e in
+    let both : node_of (concat i l r) ≡ Leaf s n = sym h.0.1 ∙ ap (node_at xs) named ∙ e in
     let no : ◌≡◌ {A = ℕ} 0 1 = cc both in
     absurd (omega arith)
 
@@ -80,28 +80,28 @@ pub record Parts (xs : List Node) (at left right : ℕ) : Type 0 where
   pub r : Hangs xs right
   pub stands : Stands xs (concat at l.shape r.shape)
   pub once : (k : ℕ) → occurs k (concat at l.shape r.shape) ≤ 1
-  pub left_less : depth_of (get_or xs left (Leaf 0 0)) < depth_of (get_or xs at (Leaf 0 0))
-  pub right_less : depth_of (get_or xs right (Leaf 0 0)) < depth_of (get_or xs at (Leaf 0 0))
-  pub left_size : size_of (get_or xs left (Leaf 0 0)) ≡ size l.shape
-  pub right_size : size_of (get_or xs right (Leaf 0 0)) ≡ size r.shape
-  pub whole_size : size_of (get_or xs at (Leaf 0 0)) ≡ size l.shape + size r.shape
+  pub left_less : depth_of (node_at xs left) < depth_of (node_at xs at)
+  pub right_less : depth_of (node_at xs right) < depth_of (node_at xs at)
+  pub left_size : size_of (node_at xs left) ≡ size l.shape
+  pub right_size : size_of (node_at xs right) ≡ size r.shape
+  pub whole_size : size_of (node_at xs at) ≡ size l.shape + size r.shape
   pub in_table : at < length xs
   pub left_before : left < at
   pub right_before : right < at
 
-parts_of : (xs : List Node) (t : Shape) (at left right n levels : ℕ) → get_or xs at (Leaf 0 0) ≡ Concat left right n levels → Stands xs t → number t ≡ at → ((k : ℕ) → occurs k t ≤ 1) → end t < 2 ^ 64 → Parts xs at left right
+parts_of : (xs : List Node) (t : Shape) (at left right n levels : ℕ) → node_at xs at ≡ Concat left right n levels → Stands xs t → number t ≡ at → ((k : ℕ) → occurs k t ≤ 1) → end t < 2 ^ 64 → Parts xs at left right
 parts_of xs (leaf i b z) at left right n levels e h named once fits =
-    let both : Leaf b z ≡ Concat left right n levels = sym h.1 ∙ ap (λ k. get_or xs k (Leaf 0 0)) named ∙ e in
+    let both : Leaf b z ≡ Concat left right n levels = sym h.1 ∙ ap (node_at xs) named ∙ e in
     let no : ◌≡◌ {A = ℕ} 0 1 = cc both in
     absurd (omega arith)
 parts_of xs (concat i l r) at left right n levels e h named once fits =
-    let both : node_of (concat i l r) ≡ Concat left right n levels = sym h.0.1 ∙ ap (λ k. get_or xs k (Leaf 0 0)) named ∙ e in
+    let both : node_of (concat i l r) ≡ Concat left right n levels = sym h.0.1 ∙ ap (node_at xs) named ∙ e in
     let el : number l ≡ left = cc both in
     let er : number r ≡ right = cc both in
     let there : Stands xs (concat at l r) = subst (λ k. Stands xs (concat k l r)) named h in
-    let deep_left : depth_of (get_or xs left (Leaf 0 0)) ≡ depth l = subst (λ k. depth_of (get_or xs k (Leaf 0 0)) ≡ depth l) el (stands_depth xs l h.3) in
-    let deep_right : depth_of (get_or xs right (Leaf 0 0)) ≡ depth r = subst (λ k. depth_of (get_or xs k (Leaf 0 0)) ≡ depth r) er (stands_depth xs r h.4) in
-    let deep : depth_of (get_or xs at (Leaf 0 0)) ≡ max (depth l) (depth r) + 1 = stands_depth xs (concat at l r) there in
+    let deep_left : depth_of (node_at xs left) ≡ depth l = subst (λ k. depth_of (node_at xs k) ≡ depth l) el (stands_depth xs l h.3) in
+    let deep_right : depth_of (node_at xs right) ≡ depth r = subst (λ k. depth_of (node_at xs k) ≡ depth r) er (stands_depth xs r h.4) in
+    let deep : depth_of (node_at xs at) ≡ max (depth l) (depth r) + 1 = stands_depth xs (concat at l r) there in
     record {
       l = record { shape = l; stands = h.3; named = el; once = λ k. omega (arith, once k); fits = omega arith };
       r = record { shape = r; stands = h.4; named = er; once = λ k. omega (arith, once k); fits = omega arith };
@@ -109,37 +109,25 @@ parts_of xs (concat i l r) at left right n levels e h named once fits =
       once = subst (λ j. (k : ℕ) → occurs k (concat j l r) ≤ 1) named once;
       left_less = omega arith;
       right_less = omega arith;
-      left_size = subst (λ k. size_of (get_or xs k (Leaf 0 0)) ≡ size l) el (stands_size xs l h.3);
-      right_size = subst (λ k. size_of (get_or xs k (Leaf 0 0)) ≡ size r) er (stands_size xs r h.4);
+      left_size = subst (λ k. size_of (node_at xs k) ≡ size l) el (stands_size xs l h.3);
+      right_size = subst (λ k. size_of (node_at xs k) ≡ size r) er (stands_size xs r h.4);
       whole_size = stands_size xs (concat at l r) there;
       in_table = there.0.0;
       left_before = omega (arith, h.1);
       right_before = omega (arith, h.2);
     }
 
-pub hangs_leaf : {xs : List Node} {at : ℕ} → (h : Hangs xs at) (s n : ℕ) → get_or xs at (Leaf 0 0) ≡ Leaf s n → h.shape ≡ leaf at s n
-hangs_leaf {xs} {at} h s n e = is_leaf xs h.shape at s n e h.stands h.named
+pub hangs_leaf : {xs : List Node} {at s n : ℕ} → (h : Hangs xs at) → node_at xs at ≡ Leaf s n → h.shape ≡ leaf at s n
+hangs_leaf {xs} {at} {s} {n} h e = is_leaf xs h.shape at s n e h.stands h.named
 
-pub hangs_concat : {xs : List Node} {at : ℕ} → Hangs xs at → (left right n levels : ℕ) → get_or xs at (Leaf 0 0) ≡ Concat left right n levels → Parts xs at left right
-hangs_concat {xs} {at} h left right n levels e = parts_of xs h.shape at left right n levels e h.stands h.named h.once h.fits
+pub hangs_concat : {xs : List Node} {at left right n levels : ℕ} → Hangs xs at → node_at xs at ≡ Concat left right n levels → Parts xs at left right
+hangs_concat {xs} {at} {left} {right} {n} {levels} h e = parts_of xs h.shape at left right n levels e h.stands h.named h.once h.fits
 
 pub hangs_within : {xs : List Node} {at : ℕ} → Hangs xs at → at < length xs
 hangs_within {xs} {at} h = omega (arith, stands_root xs h.shape h.stands, h.named)
 
-pub hangs_size : {xs : List Node} {at : ℕ} → (h : Hangs xs at) → size_of (get_or xs at (Leaf 0 0)) ≡ size h.shape
-hangs_size {xs} {at} h = subst (λ k. size_of (get_or xs k (Leaf 0 0)) ≡ size h.shape) h.named (stands_size xs h.shape h.stands)
-
-restarts_leaf : (xs : List Node) (at s z n : ℕ) → Stands xs (leaf at s z) → Restarts (leaf at s z) n xs (set xs at (Leaf n z))
-restarts_leaf xs at s z n h = record {
-  stands = (omega (arith, length-set xs at (Leaf n z), h.0), get_or-set_same xs at (Leaf n z) (Leaf 0 0) h.0);
-  others = λ k none. get_or-set_other xs at k (Leaf n z) (Leaf 0 0) (λ e. omega (arith, right_here at, subst (λ j. same j at ≡ 0) e none));
-  long = length-set xs at (Leaf n z);
-}
-
-pub leaf_restarts : {xs : List Node} {at : ℕ} → (h : Hangs xs at) (s z n : ℕ) → get_or xs at (Leaf 0 0) ≡ Leaf s z → RestartsAt at n xs (set xs at (Leaf n z))
-leaf_restarts {xs} {at} h s z n e t stands named =
-    let is : t ≡ leaf at s z = stands_only xs t h.shape stands h.stands (named ∙ sym h.named) ∙ hangs_leaf h s z e in
-    subst (λ u. Restarts u n xs (set xs at (Leaf n z))) (sym is) (restarts_leaf xs at s z n (subst (Stands xs) is stands))
+pub hangs_size : {xs : List Node} {at : ℕ} → (h : Hangs xs at) → size_of (node_at xs at) ≡ size h.shape
+hangs_size {xs} {at} h = subst (λ k. size_of (node_at xs k) ≡ size h.shape) h.named (stands_size xs h.shape h.stands)
 
 -- both children are started anew, the right one behind the elements of the left
 module _ {xs : List Node} {at left right : ℕ} (parts : Parts xs at left right) (ys : List Node) (n : ℕ) (first : RestartsAt left n xs ys) where
@@ -164,7 +152,7 @@ module _ {xs : List Node} {at left right : ℕ} (parts : Parts xs at left right)
     fits = parts.r.fits;
   }
 
-  pub right_still_node : get_or ys right (Leaf 0 0) ≡ get_or xs right (Leaf 0 0)
+  pub right_still_node : node_at ys right ≡ node_at xs right
   unfolding l r
   right_still_node = on_left.others right (omega (arith, parts.once right, subst (λ k. 0 < occurs k r) parts.r.named (occurs_root r)))
 
@@ -192,7 +180,7 @@ module _ {xs : List Node} {at left right : ℕ} (parts : Parts xs at left right)
         long = after.long ∙ on_left.long;
       }
 
-  pub concat_restarts : (zs : List Node) (behind : ℕ) → behind ≡ n + size_of (get_or xs left (Leaf 0 0)) → RestartsAt right behind ys zs → RestartsAt at n xs zs
+  pub concat_restarts : (zs : List Node) (behind : ℕ) → behind ≡ n + size_of (node_at xs left) → RestartsAt right behind ys zs → RestartsAt at n xs zs
   unfolding l r right_still
   concat_restarts zs behind e second t stands named =
       let is : t ≡ concat at l r = stands_only xs t (concat at l r) stands parts.stands named in

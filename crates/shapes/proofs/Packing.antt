@@ -2,28 +2,25 @@
 use Rattle.std.proofs.Common.{◌≡◌, ℕ, zero, suc, ◌+◌, ◌-◌, ◌*◌, ◌/◌, ◌^◌, ◌<◌, ◌≤◌, List, [], ◌∷◌, ◌++◌, length, take, drop, replicate, sum, sym, refl, ap, ◌∙◌, subst, ⊎_elim, arith, pow_pos}
 use native.Mathlib.Nat.{pow-succ'}
 use Rattle.std.proofs.lemmas.List.{append_assoc, length-append, length_push, get_or_push, replicate_more, replicate-append-replicate, take_at, drop_at}
-use Rattle.std.proofs.lemmas.List.Sums.{sum_by-append, sum_by-cons, sum_by_push}
+use Rattle.std.proofs.lemmas.List.Folds.{sum_by-replicate}
+use Rattle.std.proofs.lemmas.List.Sums.{sum_by-append, sum_by_push}
 use Rattle.std.proofs.lemmas.Bool.{cases_lt, cases_eq}
 use Rattle.shapes.specs.declared.node.Node.{Node}
 use Rattle.shapes.specs.declared.node.Node.TheVariants.{Leaf}
 use Rattle.shapes.specs.Shapes.{Shape, leaf, concat, number, size, depth, nodes, same, occurs, leaf_sizes, Started}
 use Rattle.shapes.specs.Balance.{Balanced}
 use Rattle.shapes.specs.Packed.{leaves_for, Halved, Numbered, Packed, PackedAs}
-use Rattle.shapes.specs.Nodes.{node_of, concat_node, FitsOver, At, Stands}
+use Rattle.shapes.specs.Nodes.{concat_node, FitsOver, Stands}
 use Rattle.shapes.specs.Building.{PacksBehind}
 use Rattle.shapes.proofs.Tables.{not_here, stands_root}
-use Rattle.shapes.proofs.Hanging.{right_here, stands_append, stands_size, stands_depth, depth_number, concat_node_of}
+use Rattle.shapes.proofs.Hanging.{right_here, stands_append, stands_size, stands_depth, concat_node_of}
 
 sizes_size : (t : Shape) → sum (leaf_sizes t) ≡ size t
 sizes_size (leaf i s n) = omega arith
 sizes_size (concat i l r) = sum_by-append (λ x. x) (leaf_sizes l) (leaf_sizes r) ∙ omega (arith, sizes_size l, sizes_size r)
 
-sum_replicate : (m : ℕ) → sum (replicate m 64) ≡ 64 * m
-sum_replicate zero = refl
-sum_replicate (suc m) = sum_by-cons (λ x. x) 64 (replicate m 64) ∙ omega (arith, sum_replicate m)
-
 pub full_size : (t : Shape) (m x : ℕ) → leaf_sizes t ≡ replicate m 64 ++ (x ∷ []) → size t ≡ 64 * m + x
-full_size t m x full = sym (sizes_size t) ∙ ap sum full ∙ sum_by_push (λ y. y) (replicate m 64) x ∙ omega (arith, sum_replicate m)
+full_size t m x full = sym (sizes_size t) ∙ ap sum full ∙ sum_by_push (λ y. y) (replicate m 64) x ∙ omega (arith, sum_by-replicate (λ y. y) m 64)
 
 pub halved_nodes : (m : ℕ) (t : Shape) → Halved m t → nodes t + 1 ≡ 2 * m
 halved_nodes m (leaf i s n) h = omega arith
@@ -139,65 +136,64 @@ full_both a b n some more =
 packs_number : {start n m : ℕ} {xs ys : List Node} → (p : PacksBehind start n m xs ys) → number p.shape + 1 ≡ length ys
 packs_number {start} {n} {m} {xs} {ys} p = omega (arith, ap length p.behind, length-append xs p.added, p.long, numbered_number (length xs) p.shape p.numbered)
 
--- a node over what was packed on its left and then on its right
-pub packs_concat : (start n m : ℕ) (xs ys zs : List Node) → 1 < m → PacksBehind start (64 * (m - m / 2)) (m - m / 2) xs ys → PacksBehind (start + 64 * (m - m / 2)) (n - 64 * (m - m / 2)) (m / 2) ys zs → PacksBehind start n m xs (zs ++ (concat_node zs (length ys - 1) (length zs - 1) ∷ []))
-packs_concat start n m xs ys zs many left right =
-    let l = left.shape in
-    let r = right.shape in
-    let long_left : length ys ≡ length xs + nodes l = ap length left.behind ∙ length-append xs left.added ∙ ap (λ k. length xs + k) left.long in
-    let long_right : length zs ≡ length ys + nodes r = ap length right.behind ∙ length-append ys right.added ∙ ap (λ k. length ys + k) right.long in
-    let left_number : number l ≡ length ys - 1 = omega (arith, packs_number left) in
-    let right_number : number r ≡ length zs - 1 = omega (arith, packs_number right) in
-    let left_there : Stands zs l = subst (λ us. Stands us l) (sym right.behind) (stands_append ys right.added l left.stands) in
-    let node = concat_node zs (length ys - 1) (length zs - 1) in
-    let is_node : node ≡ node_of (concat (length zs) l r) = ap (λ k. concat_node zs k (length zs - 1)) (sym left_number) ∙ ap (λ k. concat_node zs (number l) k) (sym right_number) ∙ concat_node_of zs (length zs) l r left_there right.stands in
-    let left_size : size l ≡ 64 * (m - m / 2) = full_size l (m - m / 2 - 1) (64 * (m - m / 2) - 64 * (m - m / 2 - 1)) left.full ∙ omega arith in
-    let all = full_both (m - m / 2) (m / 2) n (omega arith) (omega arith) in
-    record {
-      shape = concat (length zs) l r;
-      added = left.added ++ (right.added ++ (node ∷ []));
-      behind = ap (λ us. us ++ (node ∷ [])) (right.behind ∙ ap (λ us. us ++ right.added) left.behind) ∙ append_assoc (xs ++ left.added) right.added (node ∷ []) ∙ append_assoc xs left.added (right.added ++ (node ∷ []));
-      long = length-append left.added (right.added ++ (node ∷ [])) ∙ omega (arith, length_push right.added node, left.long, right.long);
-      stands = (
-        (omega (arith, length_push zs node), get_or_push zs node (Leaf 0 0) (length zs) refl ∙ is_node),
-        omega (arith, numbered_number (length xs) l left.numbered),
-        omega (arith, numbered_number (length ys) r right.numbered),
-        stands_append zs (node ∷ []) l left_there,
-        stands_append zs (node ∷ []) r right.stands,
-      );
-      halved = (many, left.halved, right.halved);
-      full = ap (λ ks. ks ++ leaf_sizes r) left.full ∙ ap (λ ks. (replicate (m - m / 2 - 1) 64 ++ ((64 * (m - m / 2) - 64 * (m - m / 2 - 1)) ∷ [])) ++ ks) right.full ∙ all ∙ ap (λ k. replicate (k - 1) 64 ++ ((n - 64 * (k - 1)) ∷ [])) (omega arith);
-      started = (left.started, subst (λ k. Started (start + k) r) (sym left_size) right.started);
-      numbered = (left.numbered, subst (λ k. Numbered k r) long_left right.numbered, omega arith);
-    }
+-- two nodes of a table are put together under a new one: it stays within bounds, and hangs the packed shape of m leaves behind the nodes of xs
+pub record Joins (start n m : ℕ) (xs zs : List Node) (i j : ℕ) : Type 0 where
+  pub fits : FitsOver zs i j
+  pub packs : PacksBehind start n m xs (zs ++ (concat_node zs i j ∷ []))
+
+-- what was packed on the left and then on the right
+module _ {start n m : ℕ} {xs ys zs : List Node} (many : 1 < m) (few : m ≤ 1024) (small : n ≤ 32768) (left : PacksBehind start (64 * (m - m / 2)) (m - m / 2) xs ys) (right : PacksBehind (start + 64 * (m - m / 2)) (n - 64 * (m - m / 2)) (m / 2) ys zs) where
+  joins_tops : Joins start n m xs zs (number left.shape) (number right.shape)
+  joins_tops =
+      let l = left.shape in
+      let r = right.shape in
+      let a = m - m / 2 in
+      let long_left : length ys ≡ length xs + nodes l = ap length left.behind ∙ length-append xs left.added ∙ ap (λ k. length xs + k) left.long in
+      let long_right : length zs ≡ length ys + nodes r = ap length right.behind ∙ length-append ys right.added ∙ ap (λ k. length ys + k) right.long in
+      let left_there : Stands zs l = subst (λ us. Stands us l) (sym right.behind) (stands_append ys right.added l left.stands) in
+      let node = concat_node zs (number l) (number r) in
+      let left_size : size l ≡ 64 * a = full_size l (a - 1) (64 * a - 64 * (a - 1)) left.full ∙ omega arith in
+      let right_size = full_size r (m / 2 - 1) (n - 64 * a - 64 * (m / 2 - 1)) right.full in
+      let left_low : depth l ≤ 10 = halved_depth a l left.halved 10 (omega arith) in
+      let right_low : depth r ≤ 10 = halved_depth (m / 2) r right.halved 10 (omega arith) in
+      record {
+        fits = record {
+          left = (stands_root zs l left_there).0;
+          right = (stands_root zs r right.stands).0;
+          size = omega (arith, stands_size zs l left_there, stands_size zs r right.stands);
+          depth = omega (arith, stands_depth zs l left_there, stands_depth zs r right.stands);
+        };
+        packs = record {
+          shape = concat (length zs) l r;
+          added = left.added ++ (right.added ++ (node ∷ []));
+          behind = ap (λ us. us ++ (node ∷ [])) (right.behind ∙ ap (λ us. us ++ right.added) left.behind) ∙ append_assoc (xs ++ left.added) right.added (node ∷ []) ∙ append_assoc xs left.added (right.added ++ (node ∷ []));
+          long = length-append left.added (right.added ++ (node ∷ [])) ∙ omega (arith, length_push right.added node, left.long, right.long);
+          stands = (
+            (omega (arith, length_push zs node), get_or_push zs node (Leaf 0 0) (length zs) refl ∙ concat_node_of zs (length zs) l r left_there right.stands),
+            omega (arith, numbered_number (length xs) l left.numbered),
+            omega (arith, numbered_number (length ys) r right.numbered),
+            stands_append zs (node ∷ []) l left_there,
+            stands_append zs (node ∷ []) r right.stands,
+          );
+          halved = (many, left.halved, right.halved);
+          full = ap (λ ks. ks ++ leaf_sizes r) left.full ∙ ap (λ ks. (replicate (a - 1) 64 ++ ((64 * a - 64 * (a - 1)) ∷ [])) ++ ks) right.full ∙ full_both a (m / 2) n (omega arith) (omega arith) ∙ ap (λ k. replicate (k - 1) 64 ++ ((n - 64 * (k - 1)) ∷ [])) (omega arith);
+          started = (left.started, subst (λ k. Started (start + k) r) (sym left_size) right.started);
+          numbered = (left.numbered, subst (λ k. Numbered k r) long_left right.numbered, omega arith);
+        };
+      }
+
+  -- the topmost nodes are the last ones of each side
+  pub joins : (i j : ℕ) → i + 1 ≡ length ys → j + 1 ≡ length zs → Joins start n m xs zs i j
+  joins i j last_left last_right =
+      let at_left : number left.shape ≡ i = omega (arith, packs_number left) in
+      let at_right : number right.shape ≡ j = omega (arith, packs_number right) in
+      subst (λ k. Joins start n m xs zs k j) at_left (subst (Joins start n m xs zs (number left.shape)) at_right joins_tops)
+
+pub ruleset packing = (packs_leaf, joins)
 
 -- how many nodes are hung behind
 pub packs_long : {start n m : ℕ} {xs ys : List Node} → PacksBehind start n m xs ys → length ys + 1 ≡ length xs + 2 * m
 packs_long {start} {n} {m} {xs} {ys} p = omega (arith, ap length p.behind, length-append xs p.added, p.long, halved_nodes m p.shape p.halved)
-
--- the node over both sides stays within bounds
-packs_fit_there : (start n m : ℕ) (xs ys zs : List Node) → 1 < m → PacksBehind start (64 * (m - m / 2)) (m - m / 2) xs ys → PacksBehind (start + 64 * (m - m / 2)) (n - 64 * (m - m / 2)) (m / 2) ys zs → 64 * m + n < 2 ^ 64 → length zs < 2 ^ 63 → FitsOver zs (length ys - 1) (length zs - 1)
-packs_fit_there start n m xs ys zs many left right small few =
-    let l = left.shape in
-    let r = right.shape in
-    let a = m - m / 2 in
-    let there : Stands zs l = subst (λ us. Stands us l) (sym right.behind) (stands_append ys right.added l left.stands) in
-    let at_l : number l ≡ length ys - 1 = omega (arith, packs_number left) in
-    let at_r : number r ≡ length zs - 1 = omega (arith, packs_number right) in
-    let root_l : At zs l = stands_root zs l there in
-    let root_r : At zs r = stands_root zs r right.stands in
-    let few_l = full_size l (a - 1) (64 * a - 64 * (a - 1)) left.full in
-    let few_r = full_size r (m / 2 - 1) (n - 64 * a - 64 * (m / 2 - 1)) right.full in
-    let over : FitsOver zs (number l) (number r) = record {
-      left = root_l.0;
-      right = root_r.0;
-      size = omega (arith, stands_size zs l there, stands_size zs r right.stands);
-      depth = omega (arith, stands_depth zs l there, stands_depth zs r right.stands, depth_number zs l there, depth_number zs r right.stands);
-    } in
-    subst (λ i. FitsOver zs i (length zs - 1)) at_l (subst (FitsOver zs (number l)) at_r over)
-
-pub packs_fit : (start n m : ℕ) (xs ys zs us : List Node) (i j : ℕ) → 1 < m → PacksBehind start (64 * (m - m / 2)) (m - m / 2) xs ys → PacksBehind (start + 64 * (m - m / 2)) (n - 64 * (m - m / 2)) (m / 2) ys zs → us ≡ zs → i ≡ length ys - 1 → j ≡ length zs - 1 → 64 * m + n < 2 ^ 64 → length zs < 2 ^ 63 → FitsOver us i j
-packs_fit start n m xs ys zs us i j many left right table at_i at_j small few = rw (table, at_i, at_j) (packs_fit_there start n m xs ys zs many left right small few)
 
 -- behind nothing it is the packed tree
 pub packs_all : (k : ℕ) (xs : List Node) → (p : PacksBehind 0 k (leaves_for k) [] xs) → Packed k p.shape

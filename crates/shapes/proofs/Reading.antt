@@ -1,8 +1,8 @@
 -- What a shape reads, where its positions lie, and its leaves started anew. Assumes nothing.
-use Rattle.std.proofs.Common.{◌≡◌, ℕ, suc, ◌+◌, ◌<◌, ◌≤◌, ◌⊎◌, List, ◌++◌, length, get_or, take, drop, sym, refl, ap, ◌∙◌, subst, inl, inr, ⊎_elim, arith}
+use Rattle.std.proofs.Common.{◌≡◌, ℕ, suc, ◌+◌, ◌<◌, ◌≤◌, Bool, true, false, MatchBool, ◌⊎◌, List, ◌++◌, length, get_or, take, drop, sym, refl, ap, ◌∙◌, subst, inl, inr, ⊎_elim, arith}
 use Rattle.std.proofs.lemmas.List.{length-append, length-take, length-drop, get_or_append_left, get_or-append-add, get_or-take, get_or-drop, drop-drop, drop-take, take-append-drop, take-take, take_all}
 use Rattle.std.proofs.lemmas.Bool.{cases_lt}
-use Rattle.shapes.specs.Shapes.{Shape, leaf, concat, number, size, depth, occurs, widest, end, reading, EndsBeyond, EndsWithin, Reaches, Started, Alike, restarted}
+use Rattle.shapes.specs.Shapes.{Shape, leaf, concat, number, size, depth, occurs, widest, end, reading, EndsBeyond, EndsWithin, TooFew, Reaches, Started, Alike, restarted}
 use Rattle.shapes.specs.Places.{Placed, here, on_left, on_right}
 
 pub placed_within : {t : Shape} {p place level : ℕ} → Placed t p place level → p < size t
@@ -100,6 +100,11 @@ not_within n (concat i l r) h w = ⊎_elim (λ a. not_within n l a w.0) (λ b. n
 -- the largest end tells how far the leaves reach
 pub reaches_end : (t : Shape) (k : ℕ) → end t ≡ k → Reaches t k
 reaches_end t k e = record { beyond = λ n lt. let some = end_beyond n t (omega arith) in record { beyond = some; not_within = not_within n t some }; within = λ n le. end_within n t (omega arith) }
+
+-- so a test of that number tells it
+pub reaches_told : (b : Bool) (t : Shape) (n k : ℕ) → Reaches t k → MatchBool b (k ≤ n) (n < k) → MatchBool b (EndsWithin n t) (TooFew n t)
+reaches_told true t n k reaches le = reaches.within n le
+reaches_told false t n k reaches lt = reaches.beyond n lt
 
 -- how a position came to its place
 Ways : Shape → (p place level : ℕ) → Type 0

@@ -1,11 +1,11 @@
 -- A sound table of nodes and its shapes. Assumes nothing.
-use Rattle.std.proofs.Common.{◌≡◌, ℕ, suc, ◌+◌, ◌<◌, ◌≤◌, cond, ◌⊎◌, List, [], ◌∷◌, ◌++◌, map, length, get_or, take, sym, refl, ap, ◌∙◌, subst, inl, inr, ⊎_elim, arith}
+use Rattle.std.proofs.Common.{◌≡◌, ℕ, suc, ◌+◌, ◌<◌, ◌≤◌, cond, ◌⊎◌, List, [], ◌∷◌, ◌++◌, map, length, take, sym, refl, ap, ◌∙◌, subst, inl, inr, ⊎_elim, arith}
 use Rattle.std.proofs.lemmas.List.{length_push, length-map, map_push, get_or_append_left, get_or_push, get_or_past, get_or-take, get_or-map, take-append-le, take_at, same_from_push, ext_get_or, length-take-le}
 use Rattle.std.proofs.lemmas.Bool.{cases_lt, cases_eq, ne_eqb}
 use Rattle.shapes.specs.declared.node.Node.{Node}
 use Rattle.shapes.specs.declared.node.Node.TheVariants.{Leaf, Concat}
 use Rattle.shapes.specs.Shapes.{Shape, leaf, concat, number, same, occurs}
-use Rattle.shapes.specs.Nodes.{node_of, shape_at, shape_of, shapes_behind, shapes, Sound, At, Stands}
+use Rattle.shapes.specs.Nodes.{node_at, node_of, shape_at, shape_of, shapes_behind, shapes, Sound, At, Stands}
 use Rattle.shapes.proofs.Lists.{by_push}
 
 behind_push : (ts : List Shape) (xs : List Node) (x : Node) → shapes_behind ts (xs ++ (x ∷ [])) ≡ shapes_behind ts xs ++ (shape_of (shapes_behind ts xs) x ∷ [])
@@ -21,7 +21,7 @@ length_shapes = by_push (λ xs. length (shapes xs) ≡ length xs) (λ xs x h. ap
 
 -- each shape is that of its node, behind the shapes before it
 abbrev Each : List Node → Type 0
-Each xs = (k : ℕ) → k < length xs → shape_at (shapes xs) k ≡ shape_of (take k (shapes xs)) (get_or xs k (Leaf 0 0))
+Each xs = (k : ℕ) → k < length xs → shape_at (shapes xs) k ≡ shape_of (take k (shapes xs)) (node_at xs k)
 
 each_push : (xs : List Node) (x : Node) → Each xs → Each (xs ++ (x ∷ []))
 each_push xs x ih k h =
@@ -32,11 +32,11 @@ each_push xs x ih k h =
     rw (shapes_push xs x) (⊎_elim
     (λ lt. let kt : k < length ts = omega arith in
     get_or_append_left ts (s ∷ []) d k kt ∙ ih k lt
-    ∙ sym (ap (λ us. shape_of us (get_or (xs ++ (x ∷ [])) k (Leaf 0 0))) (take-append-le k ts (s ∷ []) (omega arith)) ∙ ap (shape_of (take k ts)) (get_or_append_left xs (x ∷ []) (Leaf 0 0) k lt)))
+    ∙ sym (ap (λ us. shape_of us (node_at (xs ++ (x ∷ [])) k)) (take-append-le k ts (s ∷ []) (omega arith)) ∙ ap (shape_of (take k ts)) (get_or_append_left xs (x ∷ []) (Leaf 0 0) k lt)))
     (λ ge. let kx : length xs ≡ k = omega (arith, length_push xs x) in
     let kt : length ts ≡ k = omega arith in
     get_or_push ts s d k kt
-    ∙ sym (ap (λ us. shape_of us (get_or (xs ++ (x ∷ [])) k (Leaf 0 0))) (take_at ts (s ∷ []) k kt) ∙ ap (shape_of ts) (get_or_push xs x (Leaf 0 0) k kx)))
+    ∙ sym (ap (λ us. shape_of us (node_at (xs ++ (x ∷ [])) k)) (take_at ts (s ∷ []) k kt) ∙ ap (shape_of ts) (get_or_push xs x (Leaf 0 0) k kx)))
     (cases_lt k (length xs)))
 
 pub at_shapes : (xs : List Node) → Each xs
@@ -116,8 +116,8 @@ unfolding SoundListed
 sound_listed = by_push SoundListed sound_listed_push (λ sound k h. absurd (omega arith))
 
 -- the node of the shape at a number
-pub sound_at : (xs : List Node) → Sound xs → (k : ℕ) → k < length xs → get_or xs k (Leaf 0 0) ≡ node_of (shape_at (shapes xs) k)
-sound_at xs sound k lt = ap (λ ys. get_or ys k (Leaf 0 0)) sound ∙ get_or-map node_of (shapes xs) k (leaf (suc k) 0 0) (Leaf 0 0) (omega (arith, length_shapes xs))
+pub sound_at : (xs : List Node) → Sound xs → (k : ℕ) → k < length xs → node_at xs k ≡ node_of (shape_at (shapes xs) k)
+sound_at xs sound k lt = ap (λ ys. node_at ys k) sound ∙ get_or-map node_of (shapes xs) k (leaf (suc k) 0 0) (Leaf 0 0) (omega (arith, length_shapes xs))
 
 -- a shape that is listed stands in the table
 stands_in : (xs : List Node) → Sound xs → (t : Shape) → number t < length xs → t ≡ shape_at (shapes xs) (number t) → Stands xs t
@@ -174,9 +174,9 @@ pub stands_sound : (xs : List Node) (t : Shape) → Stands xs t → ((k : ℕ) �
 stands_sound xs t h all =
     ext_get_or (Leaf 0 0) xs (map node_of (shapes xs)) (sym (length-map (shapes xs) node_of ∙ length_shapes xs)) at
   where
-    at : (k : ℕ) → k < length xs → get_or xs k (Leaf 0 0) ≡ get_or (map node_of (shapes xs)) k (Leaf 0 0)
+    at : (k : ℕ) → k < length xs → node_at xs k ≡ node_at (map node_of (shapes xs)) k
     at k lt =
         let f = find xs k t h (all k lt) in
-        let node : get_or xs k (Leaf 0 0) ≡ node_of f.shape = subst (λ n. get_or xs n (Leaf 0 0) ≡ node_of f.shape) f.named (stands_root xs f.shape f.stands).1 in
+        let node : node_at xs k ≡ node_of f.shape = subst (λ n. node_at xs n ≡ node_of f.shape) f.named (stands_root xs f.shape f.stands).1 in
         let shape : shape_at (shapes xs) k ≡ f.shape = subst (λ n. shape_at (shapes xs) n ≡ f.shape) f.named (stands_shape xs f.shape f.stands) in
         node ∙ sym (get_or-map node_of (shapes xs) k (leaf (suc k) 0 0) (Leaf 0 0) (omega (arith, length_shapes xs)) ∙ ap node_of shape)

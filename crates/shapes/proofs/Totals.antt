@@ -1,5 +1,6 @@
 -- A total over the parentless nodes of a draft, by any operation whose order does not matter. Assumes nothing.
 use Rattle.std.proofs.Common.{◌≡◌, ℕ, suc, ◌+◌, ◌-◌, ◌<◌, ◌≤◌, Bool, true, false, cond, not, ◌||◌, eqb, List, [], ◌∷◌, ◌++◌, length, get_or, filter, sym, refl, ap, ◌∙◌, ⊎_elim, arith}
+use Rattle.std.proofs.Math.Bool.{or-false}
 use Rattle.std.proofs.lemmas.Bool.{cases_eq, eq-eqb, ne_eqb, or_right}
 use Rattle.shapes.specs.Shapes.{Shape, number}
 
@@ -13,11 +14,7 @@ abbrev pub mark : (ℕ → Bool) → ℕ → ℕ → Bool
 mark P l k = P k || eqb k l
 
 mark_other : (P : ℕ → Bool) (l k : ℕ) → (k ≡ l → ⊥) → mark P l k ≡ P k
-mark_other P l k ne = ap (λ b. P k || b) (ne_eqb k l ne) ∙ or_false (P k)
-  where
-    or_false : (b : Bool) → (b || false) ≡ b
-    or_false true = refl
-    or_false false = refl
+mark_other P l k ne = ap (λ b. P k || b) (ne_eqb k l ne) ∙ or-false (P k)
 
 mark_same : (P : ℕ → Bool) (l : ℕ) → mark P l l ≡ true
 mark_same P l = or_right (P l) (eqb l l) (eq-eqb l l refl)

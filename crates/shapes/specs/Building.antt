@@ -1,9 +1,8 @@
 -- What is done to a table of nodes, node by node: leaves are started anew, a packed tree is hung behind. Assumes nothing.
-use Rattle.std.specs.Prelude.{◌≡◌, ℕ, ◌-◌, ◌*◌, ◌^◌, ◌<◌, ◌≤◌, List, [], ◌∷◌, ◌++◌, length, replicate, slice_index_or}
+use Rattle.std.specs.Prelude.{◌≡◌, ℕ, ◌-◌, ◌*◌, ◌^◌, ◌<◌, ◌≤◌, List, [], ◌∷◌, ◌++◌, length, replicate}
 use Rattle.shapes.specs.declared.node.Node.{Node}
-use Rattle.shapes.specs.declared.node.Node.TheVariants.{Leaf}
 use Rattle.shapes.specs.Shapes.{Shape, number, nodes, occurs, leaf_sizes, end, Started, restarted}
-use Rattle.shapes.specs.Nodes.{Stands}
+use Rattle.shapes.specs.Nodes.{node_at, Stands}
 use Rattle.shapes.specs.Places.{Found}
 use Rattle.shapes.specs.Packed.{Halved, Numbered}
 
@@ -22,7 +21,7 @@ FoundAt xs at p place met = (t : Shape) → Stands xs t → number t ≡ at → 
 -- a shape's leaves were started anew, where n elements stand to its left, and no node outside it has changed
 pub record Restarts (t : Shape) (n : ℕ) (was after : List Node) : Type 0 where
   pub stands : Stands after (restarted n t)
-  pub others : (k : ℕ) → occurs k t ≡ 0 → slice_index_or after k (Leaf 0 0) ≡ slice_index_or was k (Leaf 0 0)
+  pub others : (k : ℕ) → occurs k t ≡ 0 → node_at after k ≡ node_at was k
   pub long : length after ≡ length was
 
 -- the same of the shape at this number, whatever shape stands there

@@ -4,6 +4,10 @@ use Rattle.shapes.specs.declared.node.Node.{Node}
 use Rattle.shapes.specs.declared.node.Node.TheVariants.{Leaf, Concat}
 use Rattle.shapes.specs.Shapes.{Shape, leaf, concat, number, size, depth}
 
+-- the node at a number of a table; a number that is not there gives an empty leaf
+abbrev pub node_at : List Node → ℕ → Node
+node_at xs k = slice_index_or xs k (Leaf 0 0)
+
 abbrev pub size_of : Node → ℕ
 size_of (Leaf start n) = n
 size_of (Concat left right n levels) = n
@@ -20,15 +24,15 @@ node_of (concat i l r) = Concat (number l) (number r) (size l + size r) (max (de
 -- the node over two others of a table
 abbrev pub concat_node : List Node → ℕ → ℕ → Node
 concat_node xs l r =
-    Concat l r (size_of (slice_index_or xs l (Leaf 0 0)) + size_of (slice_index_or xs r (Leaf 0 0)))
-    (max (depth_of (slice_index_or xs l (Leaf 0 0))) (depth_of (slice_index_or xs r (Leaf 0 0))) + 1)
+    Concat l r (size_of (node_at xs l) + size_of (node_at xs r))
+    (max (depth_of (node_at xs l)) (depth_of (node_at xs r)) + 1)
 
 -- both nodes are there, and their sizes and depths come to numbers of 64 bits
 pub record FitsOver (xs : List Node) (l r : ℕ) : Type 0 where
   pub left : l < length xs
   pub right : r < length xs
-  pub size : size_of (slice_index_or xs l (Leaf 0 0)) + size_of (slice_index_or xs r (Leaf 0 0)) < 2 ^ 64
-  pub depth : max (depth_of (slice_index_or xs l (Leaf 0 0))) (depth_of (slice_index_or xs r (Leaf 0 0))) + 1 < 2 ^ 64
+  pub size : size_of (node_at xs l) + size_of (node_at xs r) < 2 ^ 64
+  pub depth : max (depth_of (node_at xs l)) (depth_of (node_at xs r)) + 1 < 2 ^ 64
 
 -- the shape at a number; a number that is not there gives a leaf that has another
 abbrev pub shape_at : List Shape → ℕ → Shape
@@ -57,7 +61,7 @@ Sound xs = xs ≡ map node_of (shapes xs)
 
 -- A shape stands in a table: each of its nodes at its number, and each child before its parent.
 abbrev pub At : List Node → Shape → Type 0
-At xs t = (number t < length xs) × (slice_index_or xs (number t) (Leaf 0 0) ≡ node_of t)
+At xs t = (number t < length xs) × (node_at xs (number t) ≡ node_of t)
 
 abbrev pub Stands : List Node → Shape → Type 0
 Stands xs (leaf i s n) = At xs (leaf i s n)

@@ -5,14 +5,8 @@ ghost use Rattle.shapes.specs.Balance.{LeastPower};
 pub fn least_power(size: usize) -> usize
     ensures { LeastPower size result }
 {
-    let mut power = 0;
-    let mut reach: usize = 1;
-    while reach < size {
-        if power == 63 {
-            return 64;
-        }
-        reach *= 2;
-        power += 1;
+    match size {
+        0 | 1 => 0,
+        _ => (size - 1).ilog2() as usize + 1,
     }
-    power
 }

@@ -42,13 +42,12 @@ impl Node {
 // The node over two others of a table, the left and the right one.
 // None where one of them is not there, or where their sizes or depths come to more than 64 bits hold.
 pub fn concat_node(nodes: &[Node], left: usize, right: usize) -> Option<Node>
-    ensures { MatchOption result (FitsOver nodes.now left right → ⊥) (λ x. FitsOver nodes.now left right × (x ≡ concat_node nodes.now left right)) }
+    ensures { MatchOption result
+        (FitsOver nodes.now left right → ⊥)
+        (λ x. FitsOver nodes.now left right × (x ≡ concat_node nodes.now left right)) }
 {
-    if left >= nodes.len() || right >= nodes.len() {
-        return None;
-    }
-    let first = nodes[left];
-    let second = nodes[right];
+    let first = nodes.get(left)?;
+    let second = nodes.get(right)?;
     let size = first.size().checked_add(second.size())?;
     let depth = first.depth().max(second.depth()).checked_add(1)?;
     Some(Node::Concat {

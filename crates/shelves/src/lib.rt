@@ -1,8 +1,8 @@
 // A shelf: a caller's strip, read only, with the count of elements that were put on it.
 #![tactic(auto)]
 
-ghost use Rattle.std.specs.Prelude.{◌≡◌, length, take, MatchResult};
-ghost use Rattle.base.specs.Refusals.{Refuses, Passes};
+ghost use Rattle.std.specs.Prelude.{◌≡◌, length, take};
+ghost use Rattle.base.specs.Refusals.{Answered};
 ghost use Rattle.shelves.specs.Shelves.{held, open_asks};
 
 use base::Refusal;
@@ -16,21 +16,16 @@ pub struct Shelf<'a, T> {
 impl<'a, T> Shelf<'a, T> {
     // Opens a shelf over a strip on which `count` elements were put.
     pub fn open(strip: &'a [T], count: usize) -> Result<Shelf<'a, T>, Refusal>
-        ensures { MatchResult result (λ s. Passes (open_asks strip.now count) × (held s ≡ take count strip.now)) (λ e. Refuses (open_asks strip.now count) e) }
+        ensures { Answered (open_asks strip.now count) result (λ s. held s ≡ take count strip.now) }
     {
-        if strip.len() < count {
-            return Err(Refusal::Buffer);
-        }
-        Ok(Shelf {
-            elements: &strip[0..count],
-        })
+        let elements = strip.get(..count).ok_or(Refusal::Buffer)?;
+        Ok(Shelf { elements })
     }
 
     pub fn count(&self) -> usize
         ensures { result ≡ length (held self.now) }
     {
-        let Shelf { elements } = self;
-        elements.len()
+        self.elements.len()
     }
 
     // The elements, for as long as the strip is lent.

@@ -1,8 +1,7 @@
-// What is done to the table of a rope's nodes, from the topmost node down.
-ghost use Rattle.std.specs.Prelude.{◌≡◌, ℕ, ◌+◌, ◌-◌, ◌*◌, ◌^◌, ◌<◌, ◌≤◌, max, length, vec_len, vec_capacity, slice_index_or};
-ghost use Rattle.shapes.specs.Nodes.{size_of};
+// What is done to the table of a rope's nodes, from the topmost node down: by plain recursion, as the rules ask.
+ghost use Rattle.std.specs.Prelude.{◌≡◌, ◌+◌, ◌-◌, ◌*◌, ◌^◌, ◌<◌, ◌≤◌, vec_len, vec_capacity};
+ghost use Rattle.shapes.specs.Nodes.{node_at, size_of};
 ghost use Rattle.shapes.specs.Building.{Hangs, FoundAt, RestartsAt, PacksBehind};
-ghost use Rattle.shapes.specs.declared.node.Node.TheVariants.{Leaf};
 
 use shapes::{Node, concat_node};
 
@@ -33,7 +32,7 @@ fn child_at(left: usize, right: usize, before: usize, position: usize) -> (usize
 // Finds the place of a position below a node.
 pub(crate) fn descend(nodes: &[Node], at: usize, position: usize) -> Place
     requires hangs { Hangs nodes.now at }
-    requires within { position < size_of (slice_index_or nodes.now at (Leaf 0 0)) }
+    requires within { position < size_of (node_at nodes.now at) }
     ensures { FoundAt nodes.now at position result.index result.met }
 {
     match nodes[at] {
@@ -43,10 +42,10 @@ pub(crate) fn descend(nodes: &[Node], at: usize, position: usize) -> Place
         },
         Node::Concat { left, right, .. } => {
             let (child, below) = child_at(left, right, nodes[left].size(), position);
-            let Place { index, met } = descend(nodes, child, below);
+            let place = descend(nodes, child, below);
             Place {
-                index,
-                met: met + 1,
+                met: place.met + 1,
+                ..place
             }
         }
     }
@@ -63,7 +62,7 @@ fn end_of(start: usize, node: Node) -> usize
 // Starts the leaves below a node anew, where `start` elements stand to their left.
 pub(crate) fn restart_under(nodes: &mut [Node], at: usize, start: usize)
     requires hangs { Hangs nodes.old at }
-    requires fits { start + size_of (slice_index_or nodes.old at (Leaf 0 0)) < 2 ^ 64 }
+    requires fits { start + size_of (node_at nodes.old at) < 2 ^ 64 }
     ensures { RestartsAt at start nodes.old nodes.new }
 {
     match nodes[at] {
@@ -77,13 +76,13 @@ pub(crate) fn restart_under(nodes: &mut [Node], at: usize, start: usize)
 }
 
 // Hangs the packed tree over some leaves behind the nodes, for `size` elements from `start` on.
+#[tactic(auto, using(shapes::proofs::Packing::packing))]
 pub(crate) fn pack_under(nodes: &mut Vec<Node>, start: usize, size: usize, leaves: usize)
     requires some { 0 < leaves }
     requires least { 64 * (leaves - 1) ≤ size }
     requires most { size ≤ 64 * leaves }
     requires fits { start + size ≤ 32768 }
     requires room { vec_len nodes.old + 2 * leaves ≤ vec_capacity nodes.old + 1 }
-    requires few { vec_capacity nodes.old < 2 ^ 63 }
     ensures packs { PacksBehind start size leaves nodes.old.items nodes.new.items }
     ensures len { vec_len nodes.new + 1 ≡ vec_len nodes.old + 2 * leaves }
     ensures capacity { vec_capacity nodes.new ≡ vec_capacity nodes.old }
@@ -99,8 +98,6 @@ pub(crate) fn pack_under(nodes: &mut Vec<Node>, start: usize, size: usize, leave
     let left = nodes.len() - 1;
     pack_under(nodes, start + held, size - held, on_right);
     let right = nodes.len() - 1;
-    let Some(parent) = concat_node(nodes.as_slice(), left, right) else {
-        unreachable()
-    };
+    let parent = concat_node(nodes, left, right).unwrap();
     nodes.push_reserved(parent);
 }

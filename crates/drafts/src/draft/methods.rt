@@ -1,10 +1,10 @@
 // What can be done with a draft: add a leaf, put two nodes together, seal it into a tree.
-ghost use Rattle.std.specs.Prelude.{◌≡◌, ◌+◌, ◌<◌, ◌≤◌, true, not, [], ◌∷◌, ◌++◌, length, IfOk, vec_len, vec_capacity, MatchBool, count_by, MatchResult, ◌≢◌, slice_set};
-ghost use Rattle.base.specs.Refusals.{Refuses, Passes};
-ghost use Rattle.shapes.specs.Nodes.{shapes, last_shape, size_of, depth_of};
+ghost use Rattle.std.specs.Prelude.{◌≡◌, ◌+◌, ◌<◌, ◌≤◌, [], ◌∷◌, ◌++◌, length, IfOk, OnErr, vec_capacity, MatchBool};
+ghost use Rattle.base.specs.Refusals.{Passes, Answered};
+ghost use Rattle.shapes.specs.Nodes.{concat_node, last_shape, size_of, depth_of};
 ghost use Rattle.shapes.specs.Shapes.{size, depth};
 ghost use Rattle.shapes.specs.Trees.{Grown};
-ghost use Rattle.shapes.specs.Drafts.{Kept, Parentless, parentless, next_leaf, next_concat, elements as elements_of};
+ghost use Rattle.shapes.specs.Drafts.{Parentless, parentless, next_leaf, next_concat, elements as elements_of};
 ghost use Rattle.drafts.specs.Views.{draft_nodes, draft_shapes};
 ghost use Rattle.trees.specs.Views.{tree_nodes, tree_shape};
 ghost use Rattle.drafts.specs.Examples.{Chains};
@@ -23,72 +23,9 @@ fn reserved<T>(heap: Global) -> Result<Vec<T>, AllocError>
     Vec::with_capacity(heap, MOST_NODES)
 }
 
-// Notes that a node has a parent now.
-fn adopt(parented: &mut Vec<bool>, node: usize)
-    requires { node < vec_len parented.old }
-    ensures items { parented.new.items ≡ slice_set parented.old.items node true }
-    ensures len { vec_len parented.new ≡ vec_len parented.old }
-    ensures capacity { vec_capacity parented.new ≡ vec_capacity parented.old }
-{
-    parented[node] = true;
-}
-
-// Adds a leaf behind the nodes, for elements from `start` on.
-fn append_leaf(nodes: &mut Vec<Node>, parented: &mut Vec<bool>, start: usize, size: usize)
-    requires kept { Kept nodes.old.items parented.old.items }
-    requires counted { start ≡ elements_of (shapes nodes.old.items) }
-    requires narrow { size ≤ 64 }
-    requires small { start + size ≤ 32768 }
-    requires few { length nodes.old.items < 1023 }
-    requires room { 1023 ≤ vec_capacity nodes.old }
-    requires flags_room { 1023 ≤ vec_capacity parented.old }
-    ensures kept { Kept nodes.new.items parented.new.items }
-    ensures counted { start + size ≡ elements_of (shapes nodes.new.items) }
-    ensures shapes { shapes nodes.new.items ≡ shapes nodes.old.items ++ (next_leaf (shapes nodes.old.items) size ∷ []) }
-    ensures capacity { vec_capacity nodes.new ≡ vec_capacity nodes.old }
-    ensures flags_capacity { vec_capacity parented.new ≡ vec_capacity parented.old }
-{
-    nodes.push_reserved(Node::Leaf { start, size });
-    parented.push_reserved(false);
-}
-
-// Puts two parentless nodes together under a new one behind the nodes.
-fn append_concat(nodes: &mut Vec<Node>, parented: &mut Vec<bool>, left: usize, right: usize)
-    requires kept { Kept nodes.old.items parented.old.items }
-    requires both { Parentless (shapes nodes.old.items) left × Parentless (shapes nodes.old.items) right × (left ≢ right) }
-    requires few { length nodes.old.items < 1023 }
-    requires room { 1023 ≤ vec_capacity nodes.old }
-    requires flags_room { 1023 ≤ vec_capacity parented.old }
-    ensures kept { Kept nodes.new.items parented.new.items }
-    ensures counted { elements_of (shapes nodes.new.items) ≡ elements_of (shapes nodes.old.items) }
-    ensures shapes { shapes nodes.new.items ≡ shapes nodes.old.items ++ (next_concat (shapes nodes.old.items) left right ∷ []) }
-    ensures capacity { vec_capacity nodes.new ≡ vec_capacity nodes.old }
-    ensures flags_capacity { vec_capacity parented.new ≡ vec_capacity parented.old }
-{
-    adopt(parented, left);
-    adopt(parented, right);
-    parented.push_reserved(false);
-    let Some(parent) = concat_node(nodes.as_slice(), left, right) else {
-        unreachable()
-    };
-    nodes.push_reserved(parent);
-}
-
-// How many flags are not set.
-fn count_unset(flags: &[bool]) -> usize
-    ensures { result ≡ count_by not flags.now }
-{
-    let mut count = 0;
-    for flag in flags {
-        if !*flag {
-            count += 1;
-        }
-    }
-    count
-}
-
 impl Draft {
     // A draft with no nodes.
+    #[tactic(auto, using(shapes::proofs::Keeping::kept_nothing))]
     pub fn new(heap: Global) -> Result<Draft, AllocError>
         ensures { IfOk result (λ d. draft_nodes d ≡ []) }
     {
@@ -103,33 +40,27 @@ impl Draft {
     pub fn nodes(&self) -> &[Node]
         ensures { result.now ≡ draft_nodes self.now }
     {
-        self.nodes.as_slice()
+        &self.nodes
     }
 
-    // How many nodes there are.
+    // How many nodes there are, which is the number of the next one.
+    #[tactic(auto, using(shapes::proofs::Tables::length_shapes))]
     pub fn len(&self) -> usize
-        ensures { result ≡ length (draft_nodes self.now) }
-    {
-        self.nodes.len()
-    }
-
-    // The number of the next node.
-    fn next_number(&self) -> usize
         ensures nodes { result ≡ length (draft_nodes self.now) }
         ensures shapes { result ≡ length (draft_shapes self.now) }
     {
-        self.len()
+        self.nodes.len()
     }
 
     // How many elements the leaves have.
     pub fn elements(&self) -> usize
         ensures { result ≡ elements_of (draft_shapes self.now) }
     {
-        let Draft { elements, .. } = self;
-        *elements
+        self.elements
     }
 
     // How many elements more there is space for.
+    #[tactic(auto, using(shapes::proofs::Keeping::kept_small))]
     fn space(&self) -> usize
         ensures { result + elements_of (draft_shapes self.now) ≡ 32768 }
     {
@@ -138,65 +69,95 @@ impl Draft {
 
     // Whether a node exists and has no parent.
     fn is_parentless(&self, node: usize) -> bool
-        ensures { MatchBool result (Parentless (draft_shapes self.now) node) (Parentless (draft_shapes self.now) node → ⊥) }
+        ensures { MatchBool result
+            (Parentless (draft_shapes self.now) node)
+            (Parentless (draft_shapes self.now) node → ⊥) }
     {
-        if node >= self.next_number() {
-            return false;
-        }
-        !self.parented[node]
+        self.parented.get(node).is_some_and(|parented| !*parented)
+    }
+
+    // The node over two parentless nodes.
+    #[tactic(auto, using(shapes::proofs::Keeping::concat_fits))]
+    fn node_over(&self, left: usize, right: usize) -> Node
+        requires { Passes (concat_asks (draft_shapes self.now) left right) }
+        ensures { result ≡ concat_node (draft_nodes self.now) left right }
+    {
+        concat_node(&self.nodes, left, right).unwrap()
     }
 
     // Adds a leaf for the next elements and answers its number.
+    #[tactic(auto, using(shapes::proofs::Keeping::leaf_more))]
     pub fn leaf(&mut self, size: usize) -> Result<usize, Refusal>
-        ensures { MatchResult result (λ k. Passes (leaf_asks (draft_shapes self.old) size) × (k ≡ length (draft_shapes self.old)) × (draft_shapes self.new ≡ draft_shapes self.old ++ (next_leaf (draft_shapes self.old) size ∷ []))) (λ e. Refuses (leaf_asks (draft_shapes self.old) size) e × (self.new ≡ self.old)) }
+        ensures added { Answered (leaf_asks (draft_shapes self.old) size) result (λ k.
+            (k ≡ length (draft_shapes self.old))
+            × (draft_shapes self.new
+            ≡ draft_shapes self.old ++ (next_leaf (draft_shapes self.old) size ∷ []))) }
+        ensures unchanged { OnErr result (self.new ≡ self.old) }
     {
         if size > LEAF {
             return Err(Refusal::LeafSize);
         }
-        let number = self.next_number();
+        let number = self.len();
         if number >= MOST_NODES || size > self.space() {
             return Err(Refusal::Space);
         }
-        append_leaf(&mut self.nodes, &mut self.parented, self.elements, size);
+        self.nodes.push_reserved(Node::Leaf {
+            start: self.elements,
+            size,
+        });
+        self.parented.push_reserved(false);
         self.elements += size;
         Ok(number)
     }
 
     // Puts two parentless nodes together, one behind the other, and answers the number of the new node.
+    #[tactic(auto, using(shapes::proofs::Keeping::concat_more))]
     pub fn concat(&mut self, left: usize, right: usize) -> Result<usize, Refusal>
-        ensures { MatchResult result (λ k. Passes (concat_asks (draft_shapes self.old) left right) × (k ≡ length (draft_shapes self.old)) × (draft_shapes self.new ≡ draft_shapes self.old ++ (next_concat (draft_shapes self.old) left right ∷ []))) (λ e. Refuses (concat_asks (draft_shapes self.old) left right) e × (self.new ≡ self.old)) }
+        ensures added { Answered (concat_asks (draft_shapes self.old) left right) result (λ k.
+            (k ≡ length (draft_shapes self.old))
+            × (draft_shapes self.new
+            ≡ draft_shapes self.old ++ (next_concat (draft_shapes self.old) left right ∷ []))) }
+        ensures unchanged { OnErr result (self.new ≡ self.old) }
     {
         if !self.is_parentless(left) || !self.is_parentless(right) || left == right {
             return Err(Refusal::Node);
         }
-        let number = self.next_number();
+        let number = self.len();
         if number >= MOST_NODES {
             return Err(Refusal::Space);
         }
-        append_concat(&mut self.nodes, &mut self.parented, left, right);
+        let parent = self.node_over(left, right);
+        self.nodes.push_reserved(parent);
+        self.parented[left] = true;
+        self.parented[right] = true;
+        self.parented.push_reserved(false);
         Ok(number)
     }
 
     // How many nodes have no parent.
+    #[tactic(auto, using(shapes::proofs::Keeping::kept_count))]
     fn count_parentless(&self) -> usize
         ensures { result ≡ length (parentless (draft_shapes self.now)) }
     {
-        count_unset(self.parented.as_slice())
+        self.parented.iter().filter(|parented| !**parented).count()
     }
 
     // The node made last, which is the one without a parent where there is just one.
     fn last_node(&self) -> Node
-        requires { length (parentless (draft_shapes self.now)) ≡ 1 }
+        requires { 0 < length (draft_nodes self.now) }
         ensures size { size_of result ≡ size (last_shape (draft_nodes self.now)) }
         ensures depth { depth_of result ≡ depth (last_shape (draft_nodes self.now)) }
     {
-        self.nodes[self.next_number() - 1]
+        self.nodes[self.len() - 1]
     }
 
     // Whether the draft can be sealed.
+    #[tactic(auto, using(crate::proofs::Worked::chains, shapes::proofs::Growing::sealed_deep))]
     fn sealable(&self) -> Result<(), Refusal>
         ensures examples { Chains }
-        ensures sealable { MatchResult result (λ _. Passes (seal_asks (draft_shapes self.now)) × Grown (draft_nodes self.now) × (parentless (draft_shapes self.now) ≡ last_shape (draft_nodes self.now) ∷ [])) (λ e. Refuses (seal_asks (draft_shapes self.now)) e) }
+        ensures sealable { Answered (seal_asks (draft_shapes self.now)) result (λ _.
+            Grown (draft_nodes self.now)
+            × (parentless (draft_shapes self.now) ≡ last_shape (draft_nodes self.now) ∷ [])) }
     {
         if self.count_parentless() != 1 {
             return Err(Refusal::Roots);
@@ -211,16 +172,15 @@ impl Draft {
     // Copies the draft into a tree, whose root is the one node without a parent.
     pub fn seal(&self, tree: &mut Tree) -> Result<(), Refusal>
         ensures examples { Chains }
-        ensures sealed { MatchResult result (λ _. Passes (seal_asks (draft_shapes self.now)) × (tree_nodes tree.new ≡ draft_nodes self.now) × (parentless (draft_shapes self.now) ≡ tree_shape tree.new ∷ [])) (λ e. Refuses (seal_asks (draft_shapes self.now)) e × (tree.new ≡ tree.old)) }
+        ensures sealed { Answered (seal_asks (draft_shapes self.now)) result (λ _.
+            (tree_nodes tree.new ≡ draft_nodes self.now)
+            × (parentless (draft_shapes self.now) ≡ tree_shape tree.new ∷ [])) }
+        ensures unchanged { OnErr result (tree.new ≡ tree.old) }
     {
-        match self.sealable() {
-            Ok(()) => {
-                tree.copy_nodes(TreeNodes {
-                    nodes: self.nodes(),
-                });
-                Ok(())
-            }
-            Err(refusal) => Err(refusal),
-        }
+        self.sealable()?;
+        tree.copy_nodes(TreeNodes {
+            nodes: self.nodes(),
+        });
+        Ok(())
     }
 }

@@ -1,11 +1,10 @@
 // What can be done with a tree: make it, ask it, pack it, start its leaves anew.
-ghost use Rattle.std.specs.Prelude.{◌≡◌, ◌+◌, ◌-◌, ◌*◌, ◌<◌, ◌≤◌, [], ◌∷◌, length, IfOk, vec_capacity, MatchBool, MatchOption, MatchResult};
-ghost use Rattle.base.specs.Refusals.{Refuses, Passes};
-ghost use Rattle.shapes.specs.Shapes.{leaf, number, size, depth, end, reading, EndsWithin, TooFew, Reaches, Started, Alike};
+ghost use Rattle.std.specs.Prelude.{◌≡◌, ◌+◌, ◌<◌, ◌≤◌, [], ◌∷◌, length, IfOk, OnErr, MatchBool, MatchOption};
+ghost use Rattle.base.specs.Refusals.{Answered};
+ghost use Rattle.shapes.specs.Shapes.{size, depth, end, EndsWithin, TooFew, Reaches, Started, Alike};
 ghost use Rattle.shapes.specs.Places.{FoundOnly};
 ghost use Rattle.shapes.specs.Packed.{leaves_for, PackedAs};
-ghost use Rattle.shapes.specs.Nodes.{last_shape, size_of, depth_of};
-ghost use Rattle.shapes.specs.Trees.{Grown};
+ghost use Rattle.shapes.specs.Nodes.{size_of, depth_of};
 ghost use Rattle.shapes.specs.declared.node.Node.TheVariants.{Leaf};
 ghost use Rattle.shelves.specs.Shelves.{held};
 ghost use Rattle.trees.specs.Calls.{get_asks, ItemAt, ReadsAsItLies, pack_asks};
@@ -19,56 +18,12 @@ use shapes::Node;
 use shelves::Shelf;
 use std::alloc::{AllocError, Global};
 
-// A table of one empty leaf, with room for the most nodes.
-fn one_leaf(heap: Global) -> Result<Vec<Node>, AllocError>
-    ensures { IfOk result (λ v. (v.items ≡ Leaf 0 0 ∷ []) × (1023 ≤ vec_capacity v)) }
-{
-    let mut nodes = Vec::with_capacity(heap, MOST_NODES)?;
-    nodes.push_reserved(Node::Leaf { start: 0, size: 0 });
-    Ok(nodes)
-}
-
 // How many leaves the packed tree of some elements has.
 fn leaves_for(elements: usize) -> usize
     requires { elements ≤ 32768 }
     ensures { result ≡ leaves_for elements }
 {
-    ((elements + LEAF - 1) / LEAF).max(1)
-}
-
-// Fills a table with the packed tree of some elements.
-fn pack_all(nodes: &mut Vec<Node>, elements: usize)
-    requires room { 1023 ≤ vec_capacity nodes.old }
-    requires small { elements ≤ 32768 }
-    ensures grown { Grown nodes.new.items }
-    ensures packed { PackedAs elements (last_shape nodes.new.items) }
-    ensures capacity { vec_capacity nodes.new ≡ vec_capacity nodes.old }
-{
-    nodes.clear();
-    let leaves = leaves_for(elements);
-    pack_under(nodes, 0, elements, leaves);
-}
-
-// Starts all leaves of a table anew.
-fn restart_all(nodes: &mut Vec<Node>)
-    requires { Grown nodes.old.items }
-    ensures grown { Grown nodes.new.items }
-    ensures alike { Alike (last_shape nodes.old.items) (last_shape nodes.new.items) }
-    ensures started { Started 0 (last_shape nodes.new.items) }
-    ensures capacity { vec_capacity nodes.new ≡ vec_capacity nodes.old }
-{
-    let root = nodes.len() - 1;
-    restart_under(nodes.as_mut_slice(), root, 0);
-}
-
-// Fills a table with the nodes of another.
-fn refill(nodes: &mut Vec<Node>, source: &[Node])
-    requires { length source.now ≤ vec_capacity nodes.old }
-    ensures items { nodes.new.items ≡ source.now }
-    ensures capacity { vec_capacity nodes.old ≤ vec_capacity nodes.new }
-{
-    nodes.clear();
-    let _ = nodes.extend_from_slice(source);
+    elements.div_ceil(LEAF).max(1)
 }
 
 impl Tree {
@@ -76,7 +31,8 @@ impl Tree {
     pub fn new(heap: Global) -> Result<Tree, AllocError>
         ensures { IfOk result (λ t. tree_nodes t ≡ Leaf 0 0 ∷ []) }
     {
-        let nodes = one_leaf(heap)?;
+        let mut nodes = Vec::with_capacity(heap, MOST_NODES)?;
+        nodes.push_reserved(Node::Leaf { start: 0, size: 0 });
         Ok(Tree { nodes })
     }
 
@@ -84,7 +40,7 @@ impl Tree {
     pub fn nodes(&self) -> &[Node]
         ensures { result.now ≡ tree_nodes self.now }
     {
-        self.nodes.as_slice()
+        &self.nodes
     }
 
     // The number of the root: the last node is the root.
@@ -98,12 +54,12 @@ impl Tree {
     fn root_node(&self) -> Node
         ensures size { size_of result ≡ size (tree_shape self.now) }
         ensures depth { depth_of result ≡ depth (tree_shape self.now) }
-        ensures reaches { Reaches (tree_shape self.now) (size_of result) }
     {
         self.nodes[self.root()]
     }
 
     // How many elements the tree has. Its leaves reach just as far on a strip: the largest end of a leaf is the tree's length.
+    #[tactic(auto, using(shapes::proofs::Reading::reaches_end))]
     pub fn len(&self) -> usize
         ensures value { result ≡ size (tree_shape self.now) }
         ensures end { result ≡ end (tree_shape self.now) }
@@ -119,6 +75,7 @@ impl Tree {
     }
 
     // Where a position below the length lies.
+    #[tactic(auto, using(shapes::proofs::Growing::grown_under))]
     fn find(&self, position: usize) -> Place
         requires { position < size (tree_shape self.now) }
         ensures { FoundOnly (tree_shape self.now) position result.index result.met }
@@ -128,41 +85,42 @@ impl Tree {
 
     // Where a position lies on the strip, and how many nodes are met on the way down to it.
     pub fn place(&self, position: usize) -> Option<Place>
-        ensures { MatchOption result (size (tree_shape self.now) ≤ position) (λ s. FoundOnly (tree_shape self.now) position s.index s.met) }
+        ensures { MatchOption result
+            (size (tree_shape self.now) ≤ position)
+            (λ s. FoundOnly (tree_shape self.now) position s.index s.met) }
     {
-        if position >= self.len() {
-            return None;
-        }
-        Some(self.find(position))
+        (position < self.len()).then(|| self.find(position))
     }
 
     // Whether every leaf ends within the elements of a shelf. That is so just when it has as many as the tree.
+    #[tactic(auto, using(shapes::proofs::Reading::reaches_told))]
     pub fn fits<T>(&self, shelf: &Shelf<T>) -> bool
-        ensures count { MatchBool result (size (tree_shape self.now) ≤ length (held shelf.now)) (length (held shelf.now) < size (tree_shape self.now)) }
-        ensures ends { MatchBool result (EndsWithin (length (held shelf.now)) (tree_shape self.now)) (TooFew (length (held shelf.now)) (tree_shape self.now)) }
+        ensures count { MatchBool result
+            (size (tree_shape self.now) ≤ length (held shelf.now))
+            (length (held shelf.now) < size (tree_shape self.now)) }
+        ensures ends { MatchBool result
+            (EndsWithin (length (held shelf.now)) (tree_shape self.now))
+            (TooFew (length (held shelf.now)) (tree_shape self.now)) }
     {
-        if shelf.count() < self.len() {
-            return false;
-        }
-        true
+        self.len() <= shelf.count()
     }
 
     // The element at a position, from elements that are as many as the tree has at least.
+    #[tactic(auto, using(shapes::proofs::Reading::started_whole))]
     fn item<T: Copy>(&self, elements: &[T], position: usize) -> Option<T>
         requires { size (tree_shape self.now) ≤ length elements.now }
         ensures item { ItemAt elements.now (tree_shape self.now) position result }
         ensures whole { ReadsAsItLies elements.now (tree_shape self.now) }
     {
-        match self.place(position) {
-            Some(Place { index, met: _ }) => Some(elements[index]),
-            None => None,
-        }
+        let Place { index, .. } = self.place(position)?;
+        Some(elements[index])
     }
 
     // The element at a position, from a shelf: the one that is read there, leaves from left to right.
     // Where the leaves start as a packed tree's, the whole shelf is read as it lies.
     pub fn get<T: Copy>(&self, shelf: &Shelf<T>, position: usize) -> Result<Option<T>, Refusal>
-        ensures item { MatchResult result (λ o. Passes (get_asks (held shelf.now) (tree_shape self.now)) × ItemAt (held shelf.now) (tree_shape self.now) position o) (λ e. Refuses (get_asks (held shelf.now) (tree_shape self.now)) e) }
+        ensures item { Answered (get_asks (held shelf.now) (tree_shape self.now)) result
+            (ItemAt (held shelf.now) (tree_shape self.now) position) }
         ensures whole { ReadsAsItLies (held shelf.now) (tree_shape self.now) }
     {
         if !self.fits(shelf) {
@@ -172,30 +130,38 @@ impl Tree {
     }
 
     // Makes this the packed tree of some elements.
+    #[tactic(auto, using(crate::proofs::Worked::packed_129))]
     pub fn pack(&mut self, elements: usize) -> Result<(), Refusal>
         ensures example { Packed129 }
-        ensures packed { MatchResult result (λ _. Passes (pack_asks elements) × PackedAs elements (tree_shape self.new)) (λ e. Refuses (pack_asks elements) e × (self.new ≡ self.old)) }
+        ensures packed { Answered (pack_asks elements) result (λ _.
+            PackedAs elements (tree_shape self.new)) }
+        ensures unchanged { OnErr result (self.new ≡ self.old) }
     {
         if elements > MOST_ELEMENTS {
             return Err(Refusal::Space);
         }
-        pack_all(&mut self.nodes, elements);
+        let nodes = &mut self.nodes;
+        nodes.clear();
+        pack_under(nodes, 0, elements, leaves_for(elements));
         Ok(())
     }
 
     // Starts the leaves anew, each at the number of elements to its left; nodes and shape stay.
+    #[tactic(auto, using(shapes::proofs::Growing::grown_under))]
     pub fn restart(&mut self)
         ensures alike { Alike (tree_shape self.old) (tree_shape self.new) }
         ensures started { Started 0 (tree_shape self.new) }
     {
-        restart_all(&mut self.nodes);
+        let root = self.root();
+        restart_under(&mut self.nodes, root, 0);
     }
 
     // Makes this the tree of these nodes.
     pub fn copy_nodes(&mut self, source: TreeNodes)
         ensures { tree_nodes self.new ≡ source.entry.nodes.now }
     {
-        refill(&mut self.nodes, source.nodes);
+        self.nodes.clear();
+        self.nodes.extend_from_slice(source.nodes).unwrap();
     }
 
     // Makes this the same tree as another.

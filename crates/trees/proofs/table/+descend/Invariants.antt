@@ -1,8 +1,6 @@
-use Rattle.std.proofs.Common.{get_or}
-use Rattle.shapes.specs.Nodes.{depth_of}
-use Rattle.shapes.specs.declared.node.Node.TheVariants.{Leaf}
+use Rattle.shapes.specs.Nodes.{node_at, depth_of}
 use Rattle.trees.proofs.table.+descend.Given as goal
 
 -- the depth of the node falls
 abbrev pub decreases-descend : goal.decreases-descend
-decreases-descend l = depth_of (get_or l.nodes.now l.at (Leaf 0 0))
+decreases-descend l = depth_of (node_at l.nodes.now l.at)
