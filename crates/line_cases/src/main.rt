@@ -86,6 +86,7 @@ fn answer(heap: Global, command: &[u8]) -> anyhow::Result<String> {
     }
 }
 
+// Like `rope_cases`: a function that serves both would be public, and no contract can say what it prints.
 fn run(rt: &HostRuntime) -> anyhow::Result<()> {
     let mut input = Vec::new(rt.alloc());
     rt.stdin().read_to_end(&mut input)?;

@@ -11,6 +11,7 @@ use command::Command;
 use intake::Records;
 use std::io::{Read, Write};
 
+// Like `line_cases`: a function that serves both would be public, and no contract can say what it prints.
 fn run(rt: &HostRuntime) -> anyhow::Result<()> {
     let mut input = Vec::new(rt.alloc());
     rt.stdin().read_to_end(&mut input)?;

@@ -1,4 +1,5 @@
-// One node of a rope, as it stands in a table of nodes. Nodes are numbered by their places in the table.
+// One node of a rope, as it stands in a table of nodes. Nodes are numbered by their places in the table,
+// and stand in no boxes of their own: the numbers are part of the rules, as is the way down through the table.
 ghost use Rattle.std.specs.Prelude.{◌≡◌, MatchOption};
 ghost use Rattle.shapes.specs.Nodes.{size_of, depth_of, concat_node, FitsOver};
 

@@ -14,7 +14,7 @@ pub struct Shelf<'a, T> {
 }
 
 impl<'a, T> Shelf<'a, T> {
-    // Opens a shelf over a strip on which `count` elements were put.
+    // Opens a shelf over a strip on which `count` elements were put: by the rules a shelf is a strip with a count.
     pub fn open(strip: &'a [T], count: usize) -> Result<Shelf<'a, T>, Refusal>
         ensures { Answered (open_asks strip.now count) result (λ s. held s ≡ take count strip.now) }
     {

@@ -164,7 +164,7 @@ impl Tree {
         self.nodes.extend_from_slice(source.nodes).unwrap();
     }
 
-    // Makes this the same tree as another.
+    // Makes this the same tree as another; a `Clone` would ask for memory.
     pub fn copy_from(&mut self, source: &Tree)
         ensures { tree_nodes self.new ≡ tree_nodes source.now }
     {
