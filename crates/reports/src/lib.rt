@@ -4,7 +4,7 @@
 ghost use Rattle.std.specs.Prelude.{length, IfOk, Some, string_bytes};
 ghost use Rattle.intake.specs.Inputs.{CutInto, records};
 ghost use Rattle.reports.specs.Summaries.{Tallied, BothTallied, Outcome, Summarizes};
-ghost use Rattle.reports.specs.Reports.{row, text_of, Reports};
+ghost use Rattle.reports.specs.Reports.{row, outcome_text, text_of, Reports};
 
 use base::{Cents, Refusal};
 use intake::{IntakeFault, take_in};
@@ -90,7 +90,9 @@ impl fmt::Display for Summary {
 
 // What the pools have taken by an input whose lines are taken into a strip.
 fn takings_of(strip: &mut [Line], input: &[u8]) -> Result<Takings, IntakeFault>
-    ensures { Outcome (length strip.old) input.now result }
+    ensures cut { CutInto input.now (records input.now) }
+    ensures value { Outcome (length strip.old) input.now result }
+    ensures text { Reports (length strip.old) input.now (outcome_text result) }
 {
     let count = take_in(input, strip)?;
     Ok(Takings::of(&strip[..count]))

@@ -28,6 +28,7 @@ impl Cents {
     }
 
     // The sum modulo 2^64, in signed form.
+    #[tactic(auto, using(std::proofs::lemmas::Int::wraps))]
     pub fn wrapping_add(self, other: Cents) -> Cents
         ensures { result.cents ≡ int_wrap w64 (self.cents +ℤ other.cents) }
     {
