@@ -1,4 +1,4 @@
-pub mod methods;
+mod methods;
 
 ghost use Rattle.std.specs.Prelude.{◌^◌, ◌<◌};
 ghost use Rattle.std.specs.Int.Signed.{mag};

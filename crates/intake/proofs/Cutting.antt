@@ -2,7 +2,7 @@
 use Rattle.std.proofs.Common.{◌≡◌, ℕ, zero, suc, ◌+◌, ◌<◌, Bool, true, false, ◌&&◌, eqb, List, [], ◌∷◌, ◌++◌, length, get_or, take, drop, sym, refl, ap, ◌∙◌, subst, ⊎_elim, append_assoc, arith, length-append, eq-eqb, eqb-true}
 use Rattle.std.proofs.lemmas.List.{get_or_append_left, get_or-append-add, get_or_at, take_at, drop_at}
 use Rattle.std.proofs.lemmas.Bool.{and_parts, and_from, cases_lt}
-use Rattle.intake.specs.Inputs.{EndsAt, NoEnd, Cut, none, last, more, CutInto, onto, records}
+use Rattle.intake.specs.Inputs.{EndsAt, NoEnd, Cut, none, last, more, onto, records}
 
 -- whether a CR LF stands in front, and what the records are then
 abbrev front : ℕ → ℕ → Bool
@@ -67,7 +67,7 @@ cut_two b c rest true e cut _ =
 cut_two b c rest false e _ cut =
     one_more b (c ∷ rest) (records (c ∷ rest)) (omega arith) (λ p q. let z : ◌≡◌ {A = Bool} true false = sym (is_front b c p q) ∙ e in let n : ◌≡◌ {A = ℕ} 0 1 = cc in omega arith) cut
 
-cut_records : (bs : List ℕ) → Cut bs (records bs)
+pub cut_records : (bs : List ℕ) → Cut bs (records bs)
 cut_records [] = none
 cut_records (b ∷ []) = last (λ i h. omega (arith, h.0)) (omega arith)
 cut_records (b ∷ c ∷ rest) = cut_two b c rest (front b c) refl (cut_records rest) (cut_records (c ∷ rest))
@@ -92,7 +92,7 @@ ended_at r rest = (
 )
 
 -- an input is cut in one way only
-cut_once : (bs : List ℕ) (rs : List (List ℕ)) → Cut bs rs → rs ≡ records bs
+pub cut_once : (bs : List ℕ) (rs : List (List ℕ)) → Cut bs rs → rs ≡ records bs
 cut_once _ _ none = refl
 cut_once _ _ (last {r} no_end some) = sym (cut_none r some no_end)
 cut_once _ _ (more {r} {rest} {rs} no_end cut) =
@@ -102,6 +102,3 @@ cut_once _ _ (more {r} {rest} {rs} no_end cut) =
     (cut_at (r ++ (13 ∷ 10 ∷ rest)) (length r) (ended_at r rest) (unended r rest no_end)
     ∙ ap (λ front. front ∷ records (drop (suc (suc (length r))) (r ++ (13 ∷ 10 ∷ rest)))) (take_at r (13 ∷ 10 ∷ rest) (length r) refl)
     ∙ ap (λ l. r ∷ records l) (ap (drop (suc (suc (length r)))) (sym (append_assoc r (13 ∷ 10 ∷ []) rest)) ∙ drop_at (r ++ (13 ∷ 10 ∷ [])) rest (suc (suc (length r))) two))
-
-pub cut_into : (bs : List ℕ) → CutInto bs (records bs)
-cut_into bs = record { cut = cut_records bs; only = cut_once bs }

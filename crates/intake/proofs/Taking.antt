@@ -103,3 +103,6 @@ put_all {rs} {count = count} {n = n} {was = was} {after = after} p none all room
     let s = p.sofar in
     let done : n ≡ count = omega (arith, all.counted, each_length rs all.lines all.read, ap length (s.split ∙ ap (λ r. s.before ++ r) none ∙ append-nil s.before), each_length s.before s.lines s.read, s.counted) in
     subst (λ m. Taken rs m was after) (sym done) (record { all = sofar_all s none; room = omega (arith, done, room); strip = p.strip })
+
+pub all_counted : {rs : List (List ℕ)} {n : ℕ} → AllRead rs n → n ≡ length rs
+all_counted {rs} all = all.counted ∙ sym (each_length rs all.lines all.read)

@@ -11,7 +11,9 @@ pub struct Records<'a> {
 
 // The place of the first CR LF.
 fn first_end(bytes: &[u8]) -> Option<usize>
-    ensures { MatchOption result (NoEnd bytes.now) (λ i. EndsAt bytes.now i × ((j : ℕ) → j < i → EndsAt bytes.now j → ⊥)) }
+    ensures { MatchOption result
+        (NoEnd bytes.now)
+        (λ i. EndsAt bytes.now i × ((j : ℕ) → j < i → EndsAt bytes.now j → ⊥)) }
 {
     bytes
         .windows(2)
@@ -45,7 +47,7 @@ impl<'a> Iterator for Records<'a> {
                 Some(&rest[0..end])
             }
             None => {
-                self.rest = &rest[rest.len()..];
+                self.rest = &[];
                 Some(rest)
             }
         }

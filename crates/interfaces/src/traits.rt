@@ -39,7 +39,8 @@ pub trait Joining {
         ensures { result ≡ joined self.now a b };
 
     // grouping does not matter
-    ghost assoc: { (j : Self) (a b c : Self.Value) → joined j (joined j a b) c ≡ joined j a (joined j b c) };
+    ghost assoc: { (j : Self) (a b c : Self.Value) →
+        joined j (joined j a b) c ≡ joined j a (joined j b c) };
 
     // the neutral value changes nothing, on either side
     ghost left: { (j : Self) (a : Self.Value) → joined j (zero j) a ≡ a };

@@ -86,8 +86,8 @@ fn answer(heap: Global, command: &[u8]) -> anyhow::Result<String> {
     }
 }
 
-// Like `rope_cases`: a function that serves both would be public, and no contract can say what it prints.
-fn run(rt: &HostRuntime) -> anyhow::Result<()> {
+// The same loop stands in `rope_cases`; one function for both would be public, and no contract can say what it prints.
+fn main(rt: HostRuntime) -> anyhow::Result<()> {
     let mut input = Vec::new(rt.alloc());
     rt.stdin().read_to_end(&mut input)?;
     for command in Records::of(&input) {
@@ -95,8 +95,4 @@ fn run(rt: &HostRuntime) -> anyhow::Result<()> {
         write!(rt.stdout(), "{text}\r\n")?;
     }
     Ok(())
-}
-
-fn main(rt: HostRuntime) -> anyhow::Result<()> {
-    run(&rt)
 }

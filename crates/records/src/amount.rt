@@ -11,9 +11,9 @@ use base::Cents;
 use lines::AmountFault;
 
 // The sign before an amount's digits, if there is one.
-// No sign is a case of its own and no `None`: so one table says what each of the three means.
+// No sign is a case of its own and not a `None`: so one table says what each of the three means.
 #[derive(Clone, Copy)]
-pub enum Sign {
+enum Sign {
     Unsigned,
     Plus,
     Minus,

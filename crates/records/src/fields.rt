@@ -1,6 +1,6 @@
 // A record cut into its fields, which are handed out one at a time from the left.
-ghost use Rattle.std.specs.Prelude.{◌≡◌, MatchOption};
-ghost use Rattle.records.specs.Records.{Shaped, following, TokenOf, HandsOut, fields_from};
+ghost use Rattle.std.specs.Prelude.{◌≡◌, ◌+◌, ◌≤◌, take, drop, MatchOption};
+ghost use Rattle.records.specs.Records.{Shaped, following, TokenOf, text_of, HandsOut, fields_from};
 ghost use Rattle.records.specs.declared.fields.Field.TheVariants as field;
 ghost use Rattle.std.specs.Iterator.{at_most};
 
@@ -21,7 +21,7 @@ pub struct FieldText<'a> {
     pub bytes: &'a [u8],
 }
 
-// A field as it stands in the input.
+// A field as it stands in the input: an enum whose cases borrow it, as docs/DECISIONS.md names it for this place.
 #[derive(Clone, Copy, Debug)]
 pub enum Token<'a> {
     Terminal(FieldText<'a>),
@@ -29,6 +29,32 @@ pub enum Token<'a> {
     Pool(FieldText<'a>),
     Runner(FieldText<'a>),
     Amount(FieldText<'a>),
+}
+
+impl<'a> Token<'a> {
+    // The field's bytes and their place, whichever field it is.
+    pub(crate) fn text(self) -> FieldText<'a>
+        ensures { result ≡ text_of self.entry }
+    {
+        match self {
+            Token::Terminal(text)
+            | Token::Race(text)
+            | Token::Pool(text)
+            | Token::Runner(text)
+            | Token::Amount(text) => text,
+        }
+    }
+}
+
+// The bytes of a record from a place on, as many as the width.
+fn text_at(row: &[u8; 22], place: usize, width: usize) -> FieldText<'_>
+    requires { place + width ≤ 22 }
+    ensures { (result.place ≡ place) × (result.bytes.now ≡ take width (drop place row.now)) }
+{
+    FieldText {
+        place,
+        bytes: &row[place..place + width],
+    }
 }
 
 impl Field {
@@ -50,26 +76,11 @@ impl Field {
         ensures { TokenOf row.now self result }
     {
         match self {
-            Field::Terminal => Token::Terminal(FieldText {
-                place: 0,
-                bytes: &row[0..3],
-            }),
-            Field::Race => Token::Race(FieldText {
-                place: 4,
-                bytes: &row[4..6],
-            }),
-            Field::Pool => Token::Pool(FieldText {
-                place: 7,
-                bytes: &row[7..8],
-            }),
-            Field::Runner => Token::Runner(FieldText {
-                place: 9,
-                bytes: &row[9..11],
-            }),
-            Field::Amount => Token::Amount(FieldText {
-                place: 12,
-                bytes: &row[12..22],
-            }),
+            Field::Terminal => Token::Terminal(text_at(row, 0, 3)),
+            Field::Race => Token::Race(text_at(row, 4, 2)),
+            Field::Pool => Token::Pool(text_at(row, 7, 1)),
+            Field::Runner => Token::Runner(text_at(row, 9, 2)),
+            Field::Amount => Token::Amount(text_at(row, 12, 10)),
         }
     }
 }

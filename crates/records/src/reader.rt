@@ -6,10 +6,10 @@ ghost use Rattle.records.specs.declared.fields.Field.{Field};
 ghost use Rattle.records.specs.declared.fields.Field.TheVariants as kind;
 ghost use Rattle.records.specs.Numerals.{Nothing, Numeral};
 ghost use Rattle.records.specs.Records.{TerminalSays, RaceSays, PoolSays, RunnerSays, AmountSays};
-ghost use Rattle.records.specs.Records.{TokenOf, text_of, ReadAs, FieldRead, Reads, FirstFault};
+ghost use Rattle.records.specs.Records.{place, width, ReadAs, FieldRead, Reads, FirstFault};
 
 use crate::amount::read_amount;
-use crate::fields::{FieldText, Fields, Token};
+use crate::fields::{FieldText, Fields};
 use crate::numeral::numeral;
 use base::Cents;
 use lines::{Line, LineFault, Pool, Race, Runner, Terminal};
@@ -21,8 +21,8 @@ fn number_to(digits: &[u8], most: u16) -> Option<u16>
         (Nothing (Numeral 1 most digits.now))
         (Numeral 1 most digits.now) }
 {
-    let n = u16::try_from(numeral(digits)?).ok()?;
-    (1..=most).contains(&n).then_some(n)
+    let n = numeral(digits)?;
+    (1..=u32::from(most)).contains(&n).then(|| n as u16)
 }
 
 // The number from 1 to `most` that a field says, or the field's fault.
@@ -47,7 +47,8 @@ fn pool_of(bytes: &[u8]) -> Option<Pool>
     Pool::try_from(char::from(*letter)).ok()
 }
 
-// A value that one of the fields says.
+// A value that one of the fields says. An impl has just what is not the same for another field;
+// that the three numbers are types of their own has its reason at `lines::Terminal`.
 trait FieldValue: Sized {
     // the field
     ghost field: { Field };
@@ -55,10 +56,10 @@ trait FieldValue: Sized {
     // what its bytes say
     ghost says: { List ℕ → Self → Type 0 };
 
-    // The value that the field's token says, or the field's fault.
-    fn read(token: Token<'_>) -> Result<Self, LineFault>
-        requires { (row : List ℕ) × TokenOf row field token }
-        ensures { ReadAs says (text_of token.entry).bytes.now field result };
+    // The value that the field says, or the field's fault.
+    fn read(text: FieldText<'_>) -> Result<Self, LineFault>
+        requires { (text.place ≡ place field) × (length text.bytes.now ≤ width field) }
+        ensures { ReadAs says text.entry.bytes.now field result };
 }
 
 impl FieldValue for Terminal {
@@ -66,10 +67,7 @@ impl FieldValue for Terminal {
 
     ghost says = { TerminalSays };
 
-    fn read(token: Token<'_>) -> Result<Terminal, LineFault> {
-        let Token::Terminal(text) = token else {
-            unreachable()
-        };
+    fn read(text: FieldText<'_>) -> Result<Terminal, LineFault> {
         Ok(Terminal(number_in(text, Terminal::MOST)?))
     }
 }
@@ -79,10 +77,7 @@ impl FieldValue for Race {
 
     ghost says = { RaceSays };
 
-    fn read(token: Token<'_>) -> Result<Race, LineFault> {
-        let Token::Race(text) = token else {
-            unreachable()
-        };
+    fn read(text: FieldText<'_>) -> Result<Race, LineFault> {
         Ok(Race(number_in(text, u16::from(Race::MOST))? as u8))
     }
 }
@@ -92,10 +87,7 @@ impl FieldValue for Pool {
 
     ghost says = { PoolSays };
 
-    fn read(token: Token<'_>) -> Result<Pool, LineFault> {
-        let Token::Pool(text) = token else {
-            unreachable()
-        };
+    fn read(text: FieldText<'_>) -> Result<Pool, LineFault> {
         pool_of(text.bytes).ok_or(LineFault::Field { place: text.place })
     }
 }
@@ -105,10 +97,7 @@ impl FieldValue for Runner {
 
     ghost says = { RunnerSays };
 
-    fn read(token: Token<'_>) -> Result<Runner, LineFault> {
-        let Token::Runner(text) = token else {
-            unreachable()
-        };
+    fn read(text: FieldText<'_>) -> Result<Runner, LineFault> {
         Ok(Runner(number_in(text, u16::from(Runner::MOST))? as u8))
     }
 }
@@ -118,10 +107,7 @@ impl FieldValue for Cents {
 
     ghost says = { AmountSays };
 
-    fn read(token: Token<'_>) -> Result<Cents, LineFault> {
-        let Token::Amount(text) = token else {
-            unreachable()
-        };
+    fn read(text: FieldText<'_>) -> Result<Cents, LineFault> {
         read_amount(text.bytes).map_err(|fault| LineFault::Amount {
             place: text.place,
             fault,
@@ -137,7 +123,7 @@ fn next_value<T: FieldValue>(fields: &mut Fields<'_>) -> Result<T, LineFault>
     let Some(token) = fields.next() else {
         unreachable()
     };
-    T::read(token)
+    T::read(token.text())
 }
 
 // The line that a record says, or the first fault from the left.
@@ -149,7 +135,7 @@ pub fn read_line(row: &[u8]) -> Result<Line, LineFault>
     let Some(mut fields) = Fields::of(row) else {
         return Err(LineFault::Shape);
     };
-    // each answer is taken apart where it comes, so that the first fault from the left ends the line
+    // by `let .. else` and not by `?`, which would say the same: docs/DECISIONS.md names this form for this place
     let answer = next_value::<Terminal>(&mut fields);
     let Ok(terminal) = answer else {
         return Err(answer.unwrap_err());

@@ -1,4 +1,5 @@
-// Writes one line as a record.
+// Writes one line as a record: not by `write!`, of which is proved only what it writes where it succeeds,
+// while this call always answers.
 ghost use Rattle.std.specs.Prelude.{◌≡◌, ℕ, ◌+◌, ◌^◌, ◌<◌, ◌≤◌, List, ◌++◌, length, take, decimal, MatchBool, MatchResult, unsigned_abs};
 ghost use Rattle.base.specs.Money.{dollars};
 ghost use Rattle.base.specs.declared.refusal.Refusal.TheVariants as refusal;

@@ -5,16 +5,12 @@ use reports::report;
 use std::fs;
 use std::io::Write;
 
-fn run(rt: &HostRuntime) -> anyhow::Result<()> {
+fn main(rt: HostRuntime) -> anyhow::Result<()> {
     for line in rt.lines(rt.alloc()) {
         let name = line?;
-        let input = fs::read(rt, name.as_str())?;
+        let input = fs::read(&rt, name.as_str())?;
         let text = report(rt.alloc(), &input)?;
         write!(rt.stdout(), "{name}\r\n{text}")?;
     }
     Ok(())
-}
-
-fn main(rt: HostRuntime) -> anyhow::Result<()> {
-    run(&rt)
 }

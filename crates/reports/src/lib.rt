@@ -4,7 +4,7 @@
 ghost use Rattle.std.specs.Prelude.{length, IfOk, Some, string_bytes};
 ghost use Rattle.intake.specs.Inputs.{CutInto, records};
 ghost use Rattle.reports.specs.Summaries.{Tallied, BothTallied, Outcome, Summarizes};
-ghost use Rattle.reports.specs.Reports.{row, outcome_text, text_of, Reports};
+ghost use Rattle.reports.specs.Reports.{row, text_of, Reports};
 
 use base::{Cents, Refusal};
 use intake::{IntakeFault, take_in};
@@ -90,15 +90,14 @@ impl fmt::Display for Summary {
 
 // What the pools have taken by an input whose lines are taken into a strip.
 fn takings_of(strip: &mut [Line], input: &[u8]) -> Result<Takings, IntakeFault>
-    ensures cut { CutInto input.now (records input.now) }
-    ensures value { Outcome (length strip.old) input.now result }
-    ensures text { Reports (length strip.old) input.now (outcome_text result) }
+    ensures { Outcome (length strip.old) input.now result }
 {
     let count = take_in(input, strip)?;
     Ok(Takings::of(&strip[..count]))
 }
 
 // What is to be reported on an input of at most `MOST` records. It asks for no memory and always answers.
+#[tactic(auto, using(intake::proofs::Cutting::cut_records, intake::proofs::Cutting::cut_once, crate::proofs::Texts::prints))]
 pub fn summarize(input: &[u8]) -> Summary
     ensures cut { CutInto input.now (records input.now) }
     ensures value { Summarizes 1024 input.now result }
@@ -116,6 +115,7 @@ pub fn summarize(input: &[u8]) -> Summary
 }
 
 // The report on an input as text, where there is memory for it.
+#[tactic(auto, using(intake::proofs::Cutting::cut_records, intake::proofs::Cutting::cut_once))]
 pub fn report(heap: Global, input: &[u8]) -> Result<String, AllocError>
     ensures cut { CutInto input.now (records input.now) }
     ensures reports { IfOk result (λ t. Reports 1024 input.now (string_bytes t)) }

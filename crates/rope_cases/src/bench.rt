@@ -47,6 +47,10 @@ fn done(answer: Result<(), Refusal>) -> Answer<&'static str> {
     Answer(answer.map(|()| "done"))
 }
 
+fn yes_or_no(answer: bool) -> &'static str {
+    if answer { "yes" } else { "no" }
+}
+
 impl Bench {
     pub fn new(heap: Global) -> Result<Bench, AllocError> {
         Ok(Bench {
@@ -77,14 +81,7 @@ impl Bench {
                 self.tree.restart();
                 "done".to_string(heap)?
             }
-            Command::Place { position } => {
-                let place = self.tree.place(position).map(PlaceWords);
-                OrWord {
-                    value: place,
-                    word: "none",
-                }
-                .to_string(heap)?
-            }
+            Command::Place { position } => self.place(position)?,
             Command::ShowTree => self.tree_words()?,
             Command::Take(kind, taking) => self.take(kind, taking)?,
             Command::ScratchNone => {
@@ -94,14 +91,18 @@ impl Bench {
             Command::Scratch(runner) => done(self.scratched.insert(runner)).to_string(heap)?,
             Command::Unscratch(runner) => done(self.scratched.remove(runner)).to_string(heap)?,
             Command::IsScratched(runner) => {
-                let word = if self.scratched.contains(runner) {
-                    "yes"
-                } else {
-                    "no"
-                };
-                word.to_string(heap)?
+                yes_or_no(self.scratched.contains(runner)).to_string(heap)?
             }
         })
+    }
+
+    // Where a position lies, in words.
+    fn place(&self, position: usize) -> Result<String, AllocError> {
+        let place = OrWord {
+            value: self.tree.place(position).map(PlaceWords),
+            word: "none",
+        };
+        place.to_string(self.heap)
     }
 
     // The element that is taken from a shelf over the first places of a strip, in words.

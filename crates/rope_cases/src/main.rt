@@ -11,8 +11,8 @@ use command::Command;
 use intake::Records;
 use std::io::{Read, Write};
 
-// Like `line_cases`: a function that serves both would be public, and no contract can say what it prints.
-fn run(rt: &HostRuntime) -> anyhow::Result<()> {
+// The same loop stands in `line_cases`; one function for both would be public, and no contract can say what it prints.
+fn main(rt: HostRuntime) -> anyhow::Result<()> {
     let mut input = Vec::new(rt.alloc());
     rt.stdin().read_to_end(&mut input)?;
     let mut bench = Bench::new(rt.alloc())?;
@@ -22,8 +22,4 @@ fn run(rt: &HostRuntime) -> anyhow::Result<()> {
         write!(rt.stdout(), "{text}\r\n")?;
     }
     Ok(())
-}
-
-fn main(rt: HostRuntime) -> anyhow::Result<()> {
-    run(&rt)
 }

@@ -1,4 +1,4 @@
--- What the shelf lacks on lists. Assumes nothing.
+-- What the library lacks on lists. Assumes nothing.
 use Rattle.std.proofs.Common.{List, [], ◌∷◌, ◌++◌, sym, subst}
 use Rattle.std.proofs.lemmas.List.{append-nil, append_assoc}
 

@@ -1,4 +1,4 @@
-pub mod methods;
+mod methods;
 
 ghost use Rattle.std.specs.Prelude.{◌≤◌, vec_capacity};
 ghost use Rattle.std.proofs.Props.{props};

@@ -14,7 +14,7 @@ fn dollars_and_cents(size: u64) -> (u64, u64)
 }
 
 impl Cents {
-    // `const`, as a `From` cannot be; so is `value`.
+    // The amount of so many cents. This and `value` are `const`, as a `From` cannot be.
     pub const fn new(cents: i64) -> Cents
         ensures { result.cents ≡ cents }
     {

@@ -152,10 +152,9 @@ impl Draft {
     }
 
     // Whether the draft can be sealed.
-    #[tactic(auto, using(crate::proofs::Worked::chains, shapes::proofs::Growing::sealed_deep))]
+    #[tactic(auto, using(shapes::proofs::Growing::sealed_deep))]
     fn sealable(&self) -> Result<(), Refusal>
-        ensures examples { Chains }
-        ensures sealable { Answered (seal_asks (draft_shapes self.now)) result (λ _.
+        ensures { Answered (seal_asks (draft_shapes self.now)) result (λ _.
             Grown (draft_nodes self.now)
             × (parentless (draft_shapes self.now) ≡ last_shape (draft_nodes self.now) ∷ [])) }
     {
@@ -170,6 +169,7 @@ impl Draft {
     }
 
     // Copies the draft into a tree, whose root is the one node without a parent.
+    #[tactic(auto, using(crate::proofs::Worked::chains))]
     pub fn seal(&self, tree: &mut Tree) -> Result<(), Refusal>
         ensures examples { Chains }
         ensures sealed { Answered (seal_asks (draft_shapes self.now)) result (λ _.

@@ -1,6 +1,6 @@
 use Rattle.std.proofs.Common.{sym, ap, ◌∙◌, subst, arith}
 use Rattle.intake.specs.Inputs.{records}
-use Rattle.intake.proofs.Taking.{Sofar, sofar_none, sofar_more, sofar_all, sofar_bad}
+use Rattle.intake.proofs.Taking.{Sofar, sofar_none, sofar_more, sofar_all, sofar_bad, all_counted}
 use Rattle.intake.proofs.strip.check.Goals as goal
 
 pub loop-row-init : goal.loop-row-init
@@ -28,4 +28,4 @@ pub loop-row-preserved : goal.loop-row-preserved
 loop-row-preserved c = (sofar_more c.loop-row.invariant.0 _ _ _ c.in-Some.ensures.steps c.in_default.ensures.says, omega (arith, c.loop-row.invariant.1))
 
 pub returns : goal.returns
-returns c = (sofar_all c.loop-row.invariant.0 c.in-None.ensures.steps.0, c.loop-row.invariant.1)
+returns c = let all = sofar_all c.loop-row.invariant.0 c.in-None.ensures.steps.0 in (all_counted all, all, c.loop-row.invariant.1)

@@ -1,4 +1,4 @@
-use Rattle.std.proofs.Common.{◌<◌, ap, ◌∙◌, arith}
+use Rattle.std.proofs.Common.{ap, ◌∙◌, arith}
 use Rattle.intake.proofs.Taking.{put_none, put_more, put_all, sofar_few, sofar_fine}
 use Rattle.intake.proofs.strip.put.Goals as goal
 
@@ -10,20 +10,16 @@ loop-place-init c =
     rw (whole, first) (put_none _ _)
 
 pub unreachable-requires : goal.unreachable-requires
-unreachable-requires c = sofar_fine c.loop-place.invariant.sofar c.requires.1 _ _ _ c.in-Some.ensures.steps.0 c.in_default.ensures.says
-
--- the record is one of those for which there is room
-within : (c : goal.In-Ok) → c.in-Some.place < c.requires.0
-within c = let few = sofar_few c.loop-place.invariant.sofar c.requires.1 _ _ c.in-Some.ensures.steps.0 in omega (arith, c.in-Some.ensures.steps.1)
+unreachable-requires c = sofar_fine c.loop-place.invariant.sofar c.requires.all _ _ _ c.in-Some.ensures.steps.0 c.in_default.ensures.says
 
 pub bounds-strip-place : goal.bounds-strip-place
-bounds-strip-place c = let few = within c in omega (arith, c.requires.2)
+bounds-strip-place c = let few = sofar_few c.loop-place.invariant.sofar c.requires.all _ _ c.in-Some.ensures.steps.0 in omega (arith, c.in-Some.ensures.steps.1, c.requires.room)
 
 pub loop-place-preserved : goal.loop-place-preserved
 loop-place-preserved c =
     let steps = c.in-Some.ensures.steps in
-    let few = within c in
-    rw (steps.2, steps.1) (put_more c.loop-place.invariant _ _ _ steps.0 c.in-Ok.ensures.says (omega (arith, steps.1, c.requires.2)))
+    let few = sofar_few c.loop-place.invariant.sofar c.requires.all _ _ steps.0 in
+    rw (steps.2, steps.1) (put_more c.loop-place.invariant _ _ _ steps.0 c.in-Ok.ensures.says (omega (arith, steps.1, c.requires.room)))
 
 pub returns : goal.returns
-returns c n all room = put_all c.loop-place.invariant c.in-None.ensures.steps.0.0 all room
+returns c = put_all c.loop-place.invariant c.in-None.ensures.steps.0.0 c.requires.all c.requires.room

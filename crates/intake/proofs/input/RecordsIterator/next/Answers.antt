@@ -1,6 +1,6 @@
 use Rattle.std.proofs.Common.{◌≡◌, suc, ◌+◌, ◌-◌, ◌<◌, ◌∷◌, length, take, drop, sym, ap, ◌∙◌, arith, rules}
 use borrow.Author.Tests.{eqb-false}
-use Rattle.std.proofs.lemmas.List.{take_rest, drop_all}
+use Rattle.std.proofs.lemmas.List.{take_rest}
 use Rattle.intake.specs.Inputs.{records}
 use Rattle.intake.proofs.Cutting.{cut_at, cut_none}
 use Rattle.intake.proofs.input.RecordsIterator.next.Goals as goal
@@ -22,8 +22,7 @@ pub returns-in-None : goal.returns-in-None
 returns-in-None c =
     let bs = c.args.self.now.rest.now in
     let some : 0 < length bs = omega (arith, eqb-false (length bs) 0 (sym c.is_empty.ensures ∙ c.if-is_empty.false)) in
-    let tail = take_rest bs (length bs) ∙ drop_all (length bs) bs (omega arith) in
     record {
-      steps = cut_none bs some c.in-None.ensures ∙ ap (λ l. bs ∷ records l) (sym tail);
+      steps = cut_none bs some c.in-None.ensures;
       goes = (search rules);
     }
