@@ -65,7 +65,7 @@ fn line_of(words: &str) -> anyhow::Result<Line> {
         .chars()
         .next()
         .context("no letter")?;
-    let pool = Pool::try_from(letter)?;
+    let pool = Pool::try_from(letter).ok().context("another letter")?;
     let runner = words.next().context("no runner")?.parse::<u8>()?;
     let cents = words.next().context("no cents")?.parse::<i64>()?;
     Ok(Line {

@@ -1,16 +1,9 @@
 -- What is summarized, and its text. Assumes nothing.
-use Rattle.std.proofs.Common.{◌≡◌, ℕ, ◌≤◌, List, length, Ok, Err, Result, sym, subst}
-use Rattle.lines.specs.declared.line.Line.{Line}
-use Rattle.intake.specs.Inputs.{records}
-use Rattle.intake.specs.Intake.{EachReads}
+use Rattle.std.proofs.Common.{◌≡◌, ℕ, List, Ok, Err, Result, sym, subst}
 use Rattle.intake.specs.declared.faults.IntakeFault.{IntakeFault}
 use Rattle.reports.specs.declared.Takings.{Takings}
 use Rattle.reports.specs.Reports.{row, with_header, takings_text, outcome_text, Reports, taken, turned_away}
-use Rattle.reports.specs.Summaries.{BothTallied, AllTallied, Outcome}
-
--- the tallies of lines that were all taken
-pub tallied : (room : ℕ) (input : List ℕ) (ls : List Line) (t : Takings) → EachReads (records input) ls → length ls ≤ room → BothTallied ls t → AllTallied room input t
-tallied room input ls t read few both = record { lines = ls; read = read; few = few; tallies = both }
+use Rattle.reports.specs.Summaries.{AllTallied, Outcome}
 
 -- what the pools have taken prints the table
 prints_table : (room : ℕ) (input : List ℕ) (t : Takings) → AllTallied room input t → Reports room input (takings_text t)

@@ -61,34 +61,33 @@ impl FromStr for Command {
     type Err = anyhow::Error;
 
     fn from_str(words: &str) -> anyhow::Result<Command> {
-        let letter = words.chars().next().context("no letter")?;
-        Ok(match letter {
-            'D' => Command::NewDraft,
-            'L' => Command::Leaf {
+        Ok(match words.chars().next() {
+            Some('D') => Command::NewDraft,
+            Some('L') => Command::Leaf {
                 size: number(words, 1)?,
             },
-            'C' => Command::Concat {
+            Some('C') => Command::Concat {
                 left: number(words, 1)?,
                 right: number(words, 2)?,
             },
-            'N' => Command::ShowDraft,
-            'S' => Command::Seal,
-            'K' => Command::Pack {
+            Some('N') => Command::ShowDraft,
+            Some('S') => Command::Seal,
+            Some('K') => Command::Pack {
                 elements: number(words, 1)?,
             },
-            'R' => Command::Restart,
-            'P' => Command::Place {
+            Some('R') => Command::Restart,
+            Some('P') => Command::Place {
                 position: number(words, 1)?,
             },
-            'T' => Command::ShowTree,
-            'E' => Command::Take(Kind::Numbers, taking_of(words)?),
-            'F' => Command::Take(Kind::Lines, taking_of(words)?),
-            'A' => Command::Take(Kind::Amounts, taking_of(words)?),
-            'G' => Command::Take(Kind::Latests, taking_of(words)?),
-            'Z' => Command::ScratchNone,
-            'I' => Command::Scratch(runner_of(words)?),
-            'O' => Command::Unscratch(runner_of(words)?),
-            'Q' => Command::IsScratched(runner_of(words)?),
+            Some('T') => Command::ShowTree,
+            Some('E') => Command::Take(Kind::Numbers, taking_of(words)?),
+            Some('F') => Command::Take(Kind::Lines, taking_of(words)?),
+            Some('A') => Command::Take(Kind::Amounts, taking_of(words)?),
+            Some('G') => Command::Take(Kind::Latests, taking_of(words)?),
+            Some('Z') => Command::ScratchNone,
+            Some('I') => Command::Scratch(runner_of(words)?),
+            Some('O') => Command::Unscratch(runner_of(words)?),
+            Some('Q') => Command::IsScratched(runner_of(words)?),
             _ => return Err(anyhow!("another letter")),
         })
     }
