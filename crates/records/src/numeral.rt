@@ -8,7 +8,7 @@ pub(crate) fn numeral(digits: &[u8]) -> Option<u32>
         (Digits digits.now → ⊥)
         (λ n. Digits digits.now × (n ≡ number digits.now)) }
 {
-    // a loop: with `try_fold` it cannot be proved that the closure's product and sum fit
+    // a loop and not a `try_fold`, in which no proof was found that the closure's product and sum fit
     let mut n = 0;
     for d in digits {
         n = n * 10 + char::from(*d).to_digit(10)?;

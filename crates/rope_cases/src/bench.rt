@@ -11,7 +11,7 @@ use std::alloc::{AllocError, Global};
 use trees::Tree;
 
 #[derive(Drop)]
-pub struct Bench {
+pub(crate) struct Bench {
     heap: Global,
     draft: Draft,
     tree: Tree,
@@ -52,7 +52,7 @@ fn yes_or_no(answer: bool) -> &'static str {
 }
 
 impl Bench {
-    pub fn new(heap: Global) -> Result<Bench, AllocError> {
+    pub(crate) fn new(heap: Global) -> Result<Bench, AllocError> {
         Ok(Bench {
             heap,
             draft: Draft::new(heap)?,
@@ -63,7 +63,7 @@ impl Bench {
     }
 
     // What a command is answered, in words.
-    pub fn answer(&mut self, command: Command) -> anyhow::Result<String> {
+    pub(crate) fn answer(&mut self, command: Command) -> anyhow::Result<String> {
         let heap = self.heap;
         Ok(match command {
             Command::NewDraft => {

@@ -6,7 +6,7 @@ use std::str::FromStr;
 
 // The strip that elements are taken from.
 #[derive(Clone, Copy)]
-pub enum Kind {
+pub(crate) enum Kind {
     Numbers,
     Lines,
     Amounts,
@@ -15,14 +15,14 @@ pub enum Kind {
 
 // Where an element is taken from: a shelf of `count` elements over the first places of a strip, and a position of the tree.
 #[derive(Clone, Copy)]
-pub struct Taking {
-    pub places: usize,
-    pub count: usize,
-    pub position: usize,
+pub(crate) struct Taking {
+    pub(crate) places: usize,
+    pub(crate) count: usize,
+    pub(crate) position: usize,
 }
 
 #[derive(Clone, Copy)]
-pub enum Command {
+pub(crate) enum Command {
     NewDraft,
     Leaf { size: usize },
     Concat { left: usize, right: usize },

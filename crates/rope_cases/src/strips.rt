@@ -11,11 +11,11 @@ const PLACES: u16 = 40_000;
 // Strips of four kinds: place i of the first holds the number i, of the second a line made from i.
 // They are apart, since a shelf takes a slice of elements of one kind.
 #[derive(Drop)]
-pub struct Strips {
-    pub numbers: Vec<u16>,
-    pub lines: Vec<Line>,
-    pub amounts: Vec<Cents>,
-    pub latests: Vec<Option<Line>>,
+pub(crate) struct Strips {
+    pub(crate) numbers: Vec<u16>,
+    pub(crate) lines: Vec<Line>,
+    pub(crate) amounts: Vec<Cents>,
+    pub(crate) latests: Vec<Option<Line>>,
 }
 
 fn line_at(place: u16) -> Line {
@@ -42,7 +42,7 @@ fn latest_at(place: u16) -> Option<Line> {
 }
 
 impl Strips {
-    pub fn new(heap: Global) -> Result<Strips, AllocError> {
+    pub(crate) fn new(heap: Global) -> Result<Strips, AllocError> {
         Ok(Strips {
             numbers: (0..PLACES).collect(heap)?,
             lines: (0..PLACES).map(line_at).collect(heap)?,

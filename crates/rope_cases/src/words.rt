@@ -7,7 +7,7 @@ use trees::Place;
 
 // What a call answers: a value, or the number of its refusal.
 #[derive(Drop)]
-pub struct Answer<T>(pub Result<T, Refusal>);
+pub(crate) struct Answer<T>(pub(crate) Result<T, Refusal>);
 
 impl<T: Display> Display for Answer<T> {
     fn fmt<W: fmt::Write>(&self, f: &mut fmt::Formatter<W>) -> fmt::Result {
@@ -23,9 +23,9 @@ impl<T: Display> Display for Answer<T> {
 
 // A value, or a word where there is none.
 #[derive(Drop)]
-pub struct OrWord<T> {
-    pub value: Option<T>,
-    pub word: &'static str,
+pub(crate) struct OrWord<T> {
+    pub(crate) value: Option<T>,
+    pub(crate) word: &'static str,
 }
 
 impl<T: Display> Display for OrWord<T> {
@@ -39,7 +39,7 @@ impl<T: Display> Display for OrWord<T> {
 
 // A place on the strip, and how many nodes were met on the way to it.
 #[derive(Clone, Copy)]
-pub struct PlaceWords(pub Place);
+pub(crate) struct PlaceWords(pub(crate) Place);
 
 impl Display for PlaceWords {
     fn fmt<W: fmt::Write>(&self, f: &mut fmt::Formatter<W>) -> fmt::Result {
@@ -50,7 +50,7 @@ impl Display for PlaceWords {
 
 // The nodes of a table, with a space before each.
 #[derive(Clone, Copy)]
-pub struct Nodes<'a>(pub &'a [Node]);
+pub(crate) struct Nodes<'a>(pub(crate) &'a [Node]);
 
 impl<'a> Display for Nodes<'a> {
     fn fmt<W: fmt::Write>(&self, f: &mut fmt::Formatter<W>) -> fmt::Result {
