@@ -16,7 +16,7 @@ fn check(input: &[u8], room: usize) -> Result<usize, IntakeFault>
         (λ f. Refused room (records input.now) f) }
 {
     // counted by hand: `enumerate` would number the records and not tell at the end how many there were,
-    // and in a `try_fold` the count would be added up all the same
+    // `count` would read the input once more, and in a `try_fold` the count would be added up all the same
     let mut count = 0;
     for row in Records::of(input) {
         let number = count + 1;

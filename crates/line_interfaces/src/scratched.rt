@@ -9,7 +9,7 @@ use lines::Runner;
 #[derive(Clone, Copy, Debug)]
 pub struct Scratched {
     // the flag of runner `r` stands at place `r - 1`, and is set if the runner is in the set;
-    // an array and not a set of the library, so that the set is copied and making one cannot fail
+    // an array and not a set of the library, which asks for memory: making this one cannot fail, and it is copied
     flags: [bool; 24],
 }
 

@@ -15,6 +15,7 @@ use base::Cents;
 use lines::{Line, LineFault, Pool, Race, Runner, Terminal};
 
 // The number from 1 to `most` that digits say.
+// The casts here and below are proved to lose nothing; `try_from` would add a case that cannot come.
 fn number_to(digits: &[u8], most: u16) -> Option<u16>
     requires { length digits.now ≤ 4 }
     ensures { MatchOption result

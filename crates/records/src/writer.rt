@@ -66,6 +66,7 @@ pub fn write_line(line: &Line) -> Result<[u8; 22], Refusal>
     let mut out = *b"000,00, ,00,          ";
     out[12..].copy_from_slice(&amount_bytes(line.amount));
     put_right(&mut out[9..11], u64::from(line.runner.0));
+    // the cast is proved to lose nothing: a letter is one byte
     out[7] = char::from(line.pool) as u8;
     put_right(&mut out[4..6], u64::from(line.race.0));
     put_right(&mut out[..3], u64::from(line.terminal.0));

@@ -97,6 +97,7 @@ fn takings_of(strip: &mut [Line], input: &[u8]) -> Result<Takings, IntakeFault>
 }
 
 // What is to be reported on an input of at most `MOST` records. It asks for no memory and always answers.
+// How the input is cut is said again, so that the contract can be read alone, here and at `report`.
 #[tactic(auto, using(intake::proofs::Cutting::cut_records, intake::proofs::Cutting::cut_once, crate::proofs::Texts::prints))]
 pub fn summarize(input: &[u8]) -> Summary
     ensures cut { CutInto input.now (records input.now) }

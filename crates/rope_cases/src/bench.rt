@@ -105,7 +105,8 @@ impl Bench {
         place.to_string(self.heap)
     }
 
-    // The element that is taken from a shelf over the first places of a strip, in words.
+    // The element that is taken from a shelf over the first places of a strip, in words:
+    // one call for each kind of strip, since each answers another type.
     fn take(&self, kind: Kind, taking: Taking) -> anyhow::Result<String> {
         let heap = self.heap;
         let Bench { tree, strips, .. } = self;

@@ -18,6 +18,7 @@ pub(crate) struct Strips {
     pub(crate) latests: Vec<Option<Line>>,
 }
 
+// The casts are proved to lose nothing; `try_from` would add a case that cannot come.
 fn line_at(place: u16) -> Line {
     Line {
         terminal: Terminal(place % 1000),

@@ -50,7 +50,8 @@ impl Tree {
         self.nodes.len() - 1
     }
 
-    // The root, with the elements and the depth of the whole tree.
+    // The root, with the elements and the depth of the whole tree. Like the last node of a draft: a function that
+    // serves both would be public, and so could not ask that its table has a node.
     fn root_node(&self) -> Node
         ensures size { size_of result ≡ size (tree_shape self.now) }
         ensures depth { depth_of result ≡ depth (tree_shape self.now) }
