@@ -28,6 +28,7 @@ abbrev pub Passes : Conditions → Type 0
 Passes no_more = Unit {0}
 Passes (unless r fine rest) = fine × Passes rest
 
--- What a call that asks these answers: all of it holds, and with it what is said of the value; or it is refused, by the first that does not hold.
+-- The answer of a call that asks these things: either all of them hold, and `Does` holds of the value that it answers;
+-- or it refuses, by the first of them that does not hold.
 abbrev pub Answered : {A : Type 0} → Conditions → Result A Refusal → (A → Type 0) → Type 0
 Answered asks answer Does = MatchResult answer (λ a. Passes asks × Does a) (λ e. Refuses asks e)

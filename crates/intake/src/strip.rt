@@ -1,5 +1,5 @@
 // Takes an input into a strip, whole or not at all. A strip is lines in the caller's memory, of any number, that are written over.
-ghost use Rattle.std.specs.Prelude.{◌≡◌, ℕ, ◌^◌, ◌<◌, ◌≤◌, length, MatchResult};
+ghost use Rattle.std.specs.Prelude.{◌≡◌, ◌^◌, ◌<◌, ◌≤◌, length, MatchResult};
 ghost use Rattle.intake.specs.Inputs.{CutInto, records};
 ghost use Rattle.intake.specs.Intake.{AllRead, Taken, Refused};
 

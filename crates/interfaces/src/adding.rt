@@ -1,5 +1,4 @@
 // Amounts of money, joined by adding them up.
-ghost use Rattle.std.specs.Prelude.{◌≡◌};
 ghost use Rattle.interfaces.specs.Amounts.{nothing, sum};
 ghost use Rattle.interfaces.specs.AmountsLemmas.{sum_assoc, sum_left, sum_right};
 

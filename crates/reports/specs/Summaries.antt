@@ -34,6 +34,6 @@ abbrev pub Outcome : ℕ → List ℕ → Result Takings IntakeFault → Type 0
 Outcome room input (Ok t) = AllTallied room input t
 Outcome room input (Err f) = intake.Refused room (records input) f
 
--- the summary says that
+-- a summary says what comes of the input
 abbrev pub Summarizes : ℕ → List ℕ → Summary → Type 0
 Summarizes room input s = Outcome room input s.0

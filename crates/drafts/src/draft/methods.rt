@@ -142,7 +142,8 @@ impl Draft {
         self.parented.iter().filter(|parented| !**parented).count()
     }
 
-    // The node made last, which is the one without a parent where there is just one.
+    // The node made last, which is the one without a parent where there is just one. (`Tree::root_node` says why it has
+    // its own.)
     fn last_node(&self) -> Node
         requires { 0 < length (draft_nodes self.now) }
         ensures size { size_of result ≡ size (last_shape (draft_nodes self.now)) }
