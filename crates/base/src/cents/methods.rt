@@ -44,6 +44,8 @@ impl fmt::Display for Cents {
         let amount = self.cents;
         let sign = if amount < 0 { "-" } else { "" };
         let (whole, cents) = dollars_and_cents(amount.unsigned_abs());
-        write!(f, "{sign}{whole}.{cents:02}")
+        // a piece for each digit: a writer that is full between the two has the first
+        let (tens, units) = (cents / 10, cents % 10);
+        write!(f, "{sign}{whole}.{tens}{units}")
     }
 }

@@ -1,8 +1,8 @@
 use Rattle.std.proofs.Common.{◌≡◌, ◌/◌, ◌%◌, ◌∷◌, ◌++◌, nat_abs, decimal, sym, ap, ◌∙◌, subst, w64, SFits, rules}
 use Rattle.std.proofs.lemmas.Int.{to_z-of_z}
-use Rattle.std.specs.Fmt.{HasWritten, styled_decimal}
+use Rattle.std.specs.Fmt.{HasWritten}
 use Rattle.base.specs.Money.{unsigned, dollars}
-use Rattle.base.proofs.Money.{pieces, below_zero, from_zero}
+use Rattle.base.proofs.Money.{pieces, tens_of, units_of, below_zero, from_zero}
 use Rattle.base.proofs.cents.methods.CentsDisplay.fmt.Given as given
 use Rattle.base.proofs.cents.methods.CentsDisplay.fmt.Goals as goal
 use Rattle.base.proofs.cents.methods.CentsDisplay.fmt.Goals.{then-amount-lt0, else-amount-lt0}
@@ -23,7 +23,9 @@ returns-clause-writes g c plain ok =
     let sign = c.if-amount-lt0.sign.now in
     let size = c.unsigned_abs.result in
     let parts = c.dollars_and_cents-whole.ensures in
-    let whole = ap (λ n. sign ++ (decimal n ++ (46 ∷ styled_decimal c.laid_out.result c.dollars_and_cents-whole.result.1))) parts.0 in
-    let cents = ap (λ n. sign ++ (decimal (size / 100) ++ (46 ∷ styled_decimal c.laid_out.result n))) parts.1 in
-    let laid_out = ap (λ s. sign ++ (decimal (size / 100) ++ (46 ∷ styled_decimal s (size % 100)))) c.laid_out.ensures in
-    subst (λ bs. HasWritten g.W.Write.write_str_gives c.args.f.now bs c.write.new.self) (whole ∙ cents ∙ laid_out ∙ ap (λ t. sign ++ t) (pieces size) ∙ text g c) (c.write.ensures.writes plain ok)
+    let cents = c.dollars_and_cents-whole.result.1 in
+    let tens = tens_of size cents parts.1 in
+    let units = units_of size cents parts.1 in
+    let whole = ap (λ n. sign ++ (decimal n ++ (46 ∷ (decimal (cents / 10) ++ decimal (cents % 10))))) parts.0 in
+    let digits = ap (λ d. sign ++ (decimal (size / 100) ++ (46 ∷ (decimal d ++ decimal (cents % 10))))) tens ∙ ap (λ d. sign ++ (decimal (size / 100) ++ (46 ∷ (decimal (size / 10 % 10) ++ decimal d)))) units in
+    subst (λ bs. HasWritten g.W.Write.write_str_gives c.args.f.now bs c.write.new.self) (whole ∙ digits ∙ ap (λ t. sign ++ t) (pieces size) ∙ text g c) (c.write.ensures.writes plain ok)
