@@ -1,6 +1,6 @@
 // A record cut into its fields, which are handed out one at a time from the left.
 ghost use Rattle.std.specs.Prelude.{◌≡◌, ◌+◌, ◌≤◌, take, drop, MatchOption};
-ghost use Rattle.records.specs.Records.{Shaped, following, TokenOf, text_of, HandsOut, fields_from};
+ghost use Rattle.records.specs.Records.{Shaped, following, TokenOf, HandsOut, fields_from};
 ghost use Rattle.records.specs.declared.fields.Field.TheVariants as field;
 ghost use Rattle.std.specs.Iterator.{at_most};
 
@@ -29,21 +29,6 @@ pub enum Token<'a> {
     Pool(FieldText<'a>),
     Runner(FieldText<'a>),
     Amount(FieldText<'a>),
-}
-
-impl<'a> Token<'a> {
-    // The field's bytes and their place, whichever field it is.
-    pub(crate) fn text(self) -> FieldText<'a>
-        ensures { result ≡ text_of self.entry }
-    {
-        match self {
-            Token::Terminal(text)
-            | Token::Race(text)
-            | Token::Pool(text)
-            | Token::Runner(text)
-            | Token::Amount(text) => text,
-        }
-    }
 }
 
 // The bytes of a record from a place on, as many as the width.

@@ -6,10 +6,10 @@ ghost use Rattle.records.specs.declared.fields.Field.{Field};
 ghost use Rattle.records.specs.declared.fields.Field.TheVariants as kind;
 ghost use Rattle.records.specs.Numerals.{Nothing, Numeral};
 ghost use Rattle.records.specs.Records.{TerminalSays, RaceSays, PoolSays, RunnerSays, AmountSays};
-ghost use Rattle.records.specs.Records.{place, width, ReadAs, FieldRead, Reads, FirstFault};
+ghost use Rattle.records.specs.Records.{place, width, field_of, text_of, ReadAs, FieldRead, Reads, FirstFault};
 
 use crate::amount::read_amount;
-use crate::fields::{FieldText, Fields};
+use crate::fields::{FieldText, Fields, Token};
 use crate::numeral::numeral;
 use base::Cents;
 use lines::{Line, LineFault, Pool, Race, Runner, Terminal};
@@ -57,10 +57,12 @@ trait FieldValue: Sized {
     // what its bytes say
     ghost says: { List ℕ → Self → Type 0 };
 
-    // The value that the field says, or the field's fault.
-    fn read(text: FieldText<'_>) -> Result<Self, LineFault>
-        requires { (text.place ≡ place field) × (length text.bytes.now ≤ width field) }
-        ensures { ReadAs says text.entry.bytes.now field result };
+    // The value that the field says, or the field's fault. The token is that of the field.
+    fn read(token: Token<'_>) -> Result<Self, LineFault>
+        requires { (field_of token ≡ field)
+            × ((text_of token).place ≡ place field)
+            × (length (text_of token).bytes.now ≤ width field) }
+        ensures { ReadAs says (text_of token.entry).bytes.now field result };
 }
 
 impl FieldValue for Terminal {
@@ -68,7 +70,10 @@ impl FieldValue for Terminal {
 
     ghost says = { TerminalSays };
 
-    fn read(text: FieldText<'_>) -> Result<Terminal, LineFault> {
+    fn read(token: Token<'_>) -> Result<Terminal, LineFault> {
+        let Token::Terminal(text) = token else {
+            unreachable()
+        };
         Ok(Terminal(number_in(text, Terminal::MOST)?))
     }
 }
@@ -78,7 +83,10 @@ impl FieldValue for Race {
 
     ghost says = { RaceSays };
 
-    fn read(text: FieldText<'_>) -> Result<Race, LineFault> {
+    fn read(token: Token<'_>) -> Result<Race, LineFault> {
+        let Token::Race(text) = token else {
+            unreachable()
+        };
         Ok(Race(number_in(text, u16::from(Race::MOST))? as u8))
     }
 }
@@ -88,7 +96,10 @@ impl FieldValue for Pool {
 
     ghost says = { PoolSays };
 
-    fn read(text: FieldText<'_>) -> Result<Pool, LineFault> {
+    fn read(token: Token<'_>) -> Result<Pool, LineFault> {
+        let Token::Pool(text) = token else {
+            unreachable()
+        };
         pool_of(text.bytes).ok_or(LineFault::Field { place: text.place })
     }
 }
@@ -98,7 +109,10 @@ impl FieldValue for Runner {
 
     ghost says = { RunnerSays };
 
-    fn read(text: FieldText<'_>) -> Result<Runner, LineFault> {
+    fn read(token: Token<'_>) -> Result<Runner, LineFault> {
+        let Token::Runner(text) = token else {
+            unreachable()
+        };
         Ok(Runner(number_in(text, u16::from(Runner::MOST))? as u8))
     }
 }
@@ -108,7 +122,10 @@ impl FieldValue for Cents {
 
     ghost says = { AmountSays };
 
-    fn read(text: FieldText<'_>) -> Result<Cents, LineFault> {
+    fn read(token: Token<'_>) -> Result<Cents, LineFault> {
+        let Token::Amount(text) = token else {
+            unreachable()
+        };
         read_amount(text.bytes).map_err(|fault| LineFault::Amount {
             place: text.place,
             fault,
@@ -124,7 +141,7 @@ fn next_value<T: FieldValue>(fields: &mut Fields<'_>) -> Result<T, LineFault>
     let Some(token) = fields.next() else {
         unreachable()
     };
-    T::read(token.text())
+    T::read(token)
 }
 
 // The line that a record says, or the first fault from the left.

@@ -19,4 +19,5 @@ placed bytes place (Err f) (Err g) at says is = (cc, λ c s. says.1 c.cents s)
 pub returns : goal.returns
 returns c =
     let h = c.map_err.ensures.cases in
-    (placed c.args.text.bytes.now c.args.text.place c.read_amount.result c.map_err.result (search rules) c.read_amount.ensures.says (search rules))
+    let text = c.in-Amount.text in
+    rw c.in-Amount.is (placed text.bytes.now text.place c.read_amount.result c.map_err.result (search rules) c.read_amount.ensures.says (search rules))
