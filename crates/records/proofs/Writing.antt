@@ -17,7 +17,7 @@ use Rattle.records.proofs.Digits.{own, number_short}
 use Rattle.records.proofs.RecordLayout.{whole_six, unsigned_long}
 use Rattle.records.proofs.Reading.{each_field}
 
-right_long : (width fill : ℕ) (text : List ℕ) → length text ≤ width → length (right width fill text) ≡ width
+pub right_long : (width fill : ℕ) (text : List ℕ) → length text ≤ width → length (right width fill text) ≡ width
 right_long width fill text fits = simp (length-append, length-replicate) (omega arith)
 
 -- zeros in front change nothing
@@ -29,18 +29,22 @@ zeros_number : (k : ℕ) (ds : List ℕ) → number (replicate k 48 ++ ds) ≡ n
 zeros_number zero ds = refl
 zeros_number (suc k) ds = zeros_number k ds
 
+right_says : (width most n : ℕ) → n < 2 ^ 64 → 1 ≤ n → n ≤ most → Numeral 1 most (right width 48 (decimal n)) n
+right_says width most n fits least top =
+    let zeros = width - length (decimal n) in
+    record {
+      digits = zeros_digits zeros (decimal n) (digits_decimal own n fits);
+      says = sym (zeros_number zeros (decimal n) ∙ digits_value-decimal own n fits);
+      least = least;
+      most = top;
+    }
+
 -- the digits of a number from 1 to `most`, at the right of as many bytes as `most` has digits
 number_field : (width most n : ℕ) → 0 < width → most < 10 ^ width → most < 2 ^ 64 → 1 ≤ n → n ≤ most → (length (right width 48 (decimal n)) ≡ width) × Numeral 1 most (right width 48 (decimal n)) n
 number_field width most n some room fits least top =
-    let zeros = width - length (decimal n) in
     let small : n < 2 ^ 64 = omega arith in (
       right_long width 48 (decimal n) (length-decimal-le width n some (omega arith) small),
-      record {
-        digits = zeros_digits zeros (decimal n) (digits_decimal own n small);
-        says = sym (zeros_number zeros (decimal n) ∙ digits_value-decimal own n small);
-        least = least;
-        most = top;
-      },
+      right_says width most n small least top,
     )
 
 -- the ten bytes of an amount say it
@@ -74,7 +78,7 @@ module _ (m : ℕ) (few : m ≤ 99999999) where
         value = ap (signed sign) (sym sum);
       }
 
-dollars_says : (z : ℤ) → nat_abs z ≤ 99999999 → Says (right 10 32 (dollars z)) z
+pub dollars_says : (z : ℤ) → nat_abs z ≤ 99999999 → Says (right 10 32 (dollars z)) z
 dollars_says (pos n) few = amount_says n few Unsigned (omega arith)
 dollars_says (negsuc n) few = amount_says (suc n) few Minus (omega arith)
 
@@ -105,18 +109,18 @@ reads_shows h = record {
 }
 
 -- lists of two and of three
-two : (P : List ℕ → Type 0) (xs : List ℕ) → length xs ≡ 2 → ((x y : ℕ) → P (x ∷ y ∷ [])) → P xs
+pub two : (P : List ℕ → Type 0) (xs : List ℕ) → length xs ≡ 2 → ((x y : ℕ) → P (x ∷ y ∷ [])) → P xs
 two P [] e h = absurd (omega arith)
 two P (x ∷ []) e h = absurd (omega arith)
 two P (x ∷ y ∷ []) e h = h x y
 two P (x ∷ y ∷ z ∷ xs) e h = absurd (omega arith)
 
-three : (P : List ℕ → Type 0) (xs : List ℕ) → length xs ≡ 3 → ((x y z : ℕ) → P (x ∷ y ∷ z ∷ [])) → P xs
+pub three : (P : List ℕ → Type 0) (xs : List ℕ) → length xs ≡ 3 → ((x y z : ℕ) → P (x ∷ y ∷ z ∷ [])) → P xs
 three P [] e h = absurd (omega arith)
 three P (x ∷ xs) e h = two (λ ys. P (x ∷ ys)) xs (omega arith) (h x)
 
 -- the fields with commas between them
-abbrev joined : List ℕ → List ℕ → ℕ → List ℕ → List ℕ → List ℕ
+abbrev pub joined : List ℕ → List ℕ → ℕ → List ℕ → List ℕ → List ℕ
 joined t r b n a = t ++ (44 ∷ (r ++ (44 ∷ b ∷ 44 ∷ (n ++ (44 ∷ a)))))
 
 -- what the fields of a record are, by how it is put together

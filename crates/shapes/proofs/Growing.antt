@@ -52,17 +52,17 @@ holds_grown {xs} {t} h =
     }
 
 -- what stands in a sound table that is not empty: the shape of its last node
-last_stands : (xs : List Node) → Sound xs → 0 < length xs → Stands xs (last_shape xs)
+pub last_stands : (xs : List Node) → Sound xs → 0 < length xs → Stands xs (last_shape xs)
 last_stands xs sound some = stands_at xs sound (length xs - 1) (omega arith)
 
-last_number : (xs : List Node) → Sound xs → 0 < length xs → number (last_shape xs) ≡ length xs - 1
+pub last_number : (xs : List Node) → Sound xs → 0 < length xs → number (last_shape xs) ≡ length xs - 1
 last_number xs sound some = listed_number (shapes xs) (sound_listed xs sound) (length xs - 1) (omega (arith, length_shapes xs))
 
 -- what stands in a tree
-grown_stands : {xs : List Node} → Grown xs → Stands xs (last_shape xs)
+pub grown_stands : {xs : List Node} → Grown xs → Stands xs (last_shape xs)
 grown_stands {xs} g = last_stands xs g.sound g.some
 
-grown_number : {xs : List Node} → Grown xs → number (last_shape xs) ≡ length xs - 1
+pub grown_number : {xs : List Node} → Grown xs → number (last_shape xs) ≡ length xs - 1
 grown_number {xs} g = last_number xs g.sound g.some
 
 pub grown_hangs : {xs : List Node} → Grown xs → Hangs xs (length xs - 1)

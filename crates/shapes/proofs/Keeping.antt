@@ -20,13 +20,13 @@ use Rattle.shapes.proofs.Drafting.{drafted_small, pair_small, flags_at, flags_le
 shapes_lists : IsSet (List Shape)
 shapes_lists = is_set (shape_set ℕ_set)
 
-kept_long : {xs : List Node} {fs : List Bool} → Kept xs fs → length fs ≡ length xs
+pub kept_long : {xs : List Node} {fs : List Bool} → Kept xs fs → length fs ≡ length xs
 kept_long {xs} k = ap length k.flagged ∙ length-map (shapes xs) (λ t. has_parent (shapes xs) (number t)) ∙ length_shapes xs
 
 pub kept_small : {xs : List Node} {fs : List Bool} → Kept xs fs → elements (shapes xs) ≤ 32768
 kept_small k = ∥∥₁_elim k.drafted le_prop (λ d. drafted_small d)
 
-kept_flag : {xs : List Node} {fs : List Bool} → Kept xs fs → (i : ℕ) → i < length xs → get_or fs i true ≡ has_parent (shapes xs) i
+pub kept_flag : {xs : List Node} {fs : List Bool} → Kept xs fs → (i : ℕ) → i < length xs → get_or fs i true ≡ has_parent (shapes xs) i
 kept_flag {xs} k i lt = ap (λ bs. get_or bs i true) k.flagged ∙ flags_at true (shapes xs) (sound_listed xs k.sound) i (omega (arith, length_shapes xs))
 
 -- what the flag of a node tells; where there is no node, there is none

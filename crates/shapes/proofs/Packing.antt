@@ -19,10 +19,10 @@ sizes_size : (t : Shape) → sum (leaf_sizes t) ≡ size t
 sizes_size (leaf i s n) = omega arith
 sizes_size (concat i l r) = sum_by-append (λ x. x) (leaf_sizes l) (leaf_sizes r) ∙ omega (arith, sizes_size l, sizes_size r)
 
-full_size : (t : Shape) (m x : ℕ) → leaf_sizes t ≡ replicate m 64 ++ (x ∷ []) → size t ≡ 64 * m + x
+pub full_size : (t : Shape) (m x : ℕ) → leaf_sizes t ≡ replicate m 64 ++ (x ∷ []) → size t ≡ 64 * m + x
 full_size t m x full = sym (sizes_size t) ∙ ap sum full ∙ sum_by_push (λ y. y) (replicate m 64) x ∙ omega (arith, sum_by-replicate (λ y. y) m 64)
 
-halved_nodes : (m : ℕ) (t : Shape) → Halved m t → nodes t + 1 ≡ 2 * m
+pub halved_nodes : (m : ℕ) (t : Shape) → Halved m t → nodes t + 1 ≡ 2 * m
 halved_nodes m (leaf i s n) h = omega arith
 halved_nodes m (concat i l r) h = omega (arith, halved_nodes (m - m / 2) l h.1, halved_nodes (m / 2) r h.2)
 

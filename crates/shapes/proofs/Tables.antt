@@ -39,7 +39,7 @@ each_push xs x ih k h =
     ∙ sym (ap (λ us. shape_of us (node_at (xs ++ (x ∷ [])) k)) (take_at ts (s ∷ []) k kt) ∙ ap (shape_of ts) (get_or_push xs x (Leaf 0 0) k kx)))
     (cases_lt k (length xs)))
 
-at_shapes : (xs : List Node) → Each xs
+pub at_shapes : (xs : List Node) → Each xs
 at_shapes = by_push Each each_push (λ k h. absurd (omega arith))
 
 -- a table that stays sound with one node more
@@ -116,7 +116,7 @@ unfolding SoundListed
 sound_listed = by_push SoundListed sound_listed_push (λ sound k h. absurd (omega arith))
 
 -- the node of the shape at a number
-sound_at : (xs : List Node) → Sound xs → (k : ℕ) → k < length xs → node_at xs k ≡ node_of (shape_at (shapes xs) k)
+pub sound_at : (xs : List Node) → Sound xs → (k : ℕ) → k < length xs → node_at xs k ≡ node_of (shape_at (shapes xs) k)
 sound_at xs sound k lt = ap (λ ys. node_at ys k) sound ∙ get_or-map node_of (shapes xs) k (leaf (suc k) 0 0) (Leaf 0 0) (omega (arith, length_shapes xs))
 
 -- a shape that is listed stands in the table
