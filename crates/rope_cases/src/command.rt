@@ -1,7 +1,10 @@
 // What can be asked of the bench, as a line of standard input says it:
 // a letter and the numbers behind it, with a space before each; tests/rope_cases.py lists them.
-use anyhow::{Context, anyhow};
 use lines::Runner;
+use std::error::Error;
+use std::fmt;
+use std::fmt::Display;
+use std::num::{ParseIntError, TryFromIntError};
 use std::str::FromStr;
 
 // The strip that elements are taken from.
@@ -39,17 +42,40 @@ pub(crate) enum Command {
     IsScratched(Runner),
 }
 
+// Why a line is no command: a small type, since the 280 bytes of an `anyhow::Error` would be cleared at each call that may give one.
+#[derive(Debug, Drop)]
+pub(crate) enum CommandError {
+    AnotherLetter,
+    TooFewNumbers,
+    NoNumber(ParseIntError),
+    NoRunner(TryFromIntError),
+}
+
+impl Display for CommandError {
+    fn fmt<W: fmt::Write>(&self, f: &mut fmt::Formatter<W>) -> fmt::Result {
+        match self {
+            CommandError::AnotherLetter => f.write_str("another letter"),
+            CommandError::TooFewNumbers => f.write_str("too few numbers"),
+            CommandError::NoNumber(error) => write!(f, "{error}"),
+            CommandError::NoRunner(error) => write!(f, "{error}"),
+        }
+    }
+}
+
+impl Error for CommandError {}
+
 // The number at a place among the words of a command.
-fn number(words: &str, at: usize) -> anyhow::Result<usize> {
-    let word = words.split(' ').nth(at).context("too few numbers")?;
-    Ok(word.parse::<usize>()?)
+fn number(words: &str, at: usize) -> Result<usize, CommandError> {
+    let word = words.split(' ').nth(at).ok_or(CommandError::TooFewNumbers)?;
+    word.parse::<usize>().map_err(CommandError::NoNumber)
 }
 
-fn runner_of(words: &str) -> anyhow::Result<Runner> {
-    Ok(Runner(u8::try_from(number(words, 1)?)?))
+fn runner_of(words: &str) -> Result<Runner, CommandError> {
+    let runner = u8::try_from(number(words, 1)?).map_err(CommandError::NoRunner)?;
+    Ok(Runner(runner))
 }
 
-fn taking_of(words: &str) -> anyhow::Result<Taking> {
+fn taking_of(words: &str) -> Result<Taking, CommandError> {
     Ok(Taking {
         places: number(words, 1)?,
         count: number(words, 2)?,
@@ -58,9 +84,9 @@ fn taking_of(words: &str) -> anyhow::Result<Taking> {
 }
 
 impl FromStr for Command {
-    type Err = anyhow::Error;
+    type Err = CommandError;
 
-    fn from_str(words: &str) -> anyhow::Result<Command> {
+    fn from_str(words: &str) -> Result<Command, CommandError> {
         Ok(match words.chars().next() {
             Some('D') => Command::NewDraft,
             Some('L') => Command::Leaf {
@@ -88,7 +114,7 @@ impl FromStr for Command {
             Some('I') => Command::Scratch(runner_of(words)?),
             Some('O') => Command::Unscratch(runner_of(words)?),
             Some('Q') => Command::IsScratched(runner_of(words)?),
-            _ => return Err(anyhow!("another letter")),
+            _ => return Err(CommandError::AnotherLetter),
         })
     }
 }
