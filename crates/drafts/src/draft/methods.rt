@@ -134,12 +134,15 @@ impl Draft {
         Ok(number)
     }
 
-    // How many nodes have no parent.
+    // How many nodes have no parent: a sum over all flags, since a count of those that pass takes a branch at each.
     #[tactic(auto, using(shapes::proofs::Keeping::kept_count))]
     fn count_parentless(&self) -> usize
         ensures { result ≡ length (parentless (draft_shapes self.now)) }
     {
-        self.parented.iter().filter(|parented| !**parented).count()
+        self.parented
+            .iter()
+            .map(|parented| usize::from(!*parented))
+            .sum()
     }
 
     // The node made last, which is the one without a parent where there is just one. (`Tree::root_node` says why it has
