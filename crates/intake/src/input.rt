@@ -15,9 +15,9 @@ fn first_end(bytes: &[u8]) -> Option<usize>
         (NoEnd bytes.now)
         (λ i. EndsAt bytes.now i × ((j : ℕ) → j < i → EndsAt bytes.now j → ⊥)) }
 {
-    bytes
-        .windows(2)
-        .position(|pair| matches!(pair, [b'\r', b'\n']))
+    (1..bytes.len())
+        .find(|&i| bytes[i - 1] == b'\r' && bytes[i] == b'\n')
+        .map(|i| i - 1)
 }
 
 impl<'a> Records<'a> {
